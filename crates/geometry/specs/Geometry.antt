@@ -1,0 +1,34 @@
+-- Sums over a rectangle's sides: left + right, top + bottom, and side by side.
+use lib.Ieee.{Float, add, ofBits, binary32}
+use Rattle.geometry.specs.declared.Size.{Size}
+use Rattle.geometry.specs.declared.Rect.{Rect}
+
+-- the literal 0.0
+abbrev pub zeroF : Float
+zeroF = ofBits binary32 0
+
+-- left + right
+abbrev pub across : Rect → Float
+across r = add binary32 (r .left) (r .right)
+
+-- top + bottom
+abbrev pub down : Rect → Float
+down r = add binary32 (r .top) (r .bottom)
+
+-- both sums
+unfoldable pub sumAxes : Rect → Size
+sumAxes r = record { width = across r; height = down r }
+
+-- side by side
+unfoldable pub plus : Rect → Rect → Rect
+plus a b =
+    record {
+      top = add binary32 (a .top) (b .top);
+      right = add binary32 (a .right) (b .right);
+      bottom = add binary32 (a .bottom) (b .bottom);
+      left = add binary32 (a .left) (b .left);
+    }
+
+-- a rectangle of zeros
+unfoldable pub noRect : Rect
+noRect = record { top = zeroF; right = zeroF; bottom = zeroF; left = zeroF }

@@ -1,0 +1,43 @@
+use Rattle.style.specs.Style.{numberAt}
+use denote.Ref.{now}
+use Prim.Native.Nat.{_+_, _*_}
+use native.Mathlib.Omega.{arith}
+use Rattle.style.proofs.Reading.{getD-any, getD-past}
+use borrow.Author.Needs.{needs}
+use Rattle.style.proofs.number.Statement.{statement}
+use Rattle.style.proofs.number.Tie as tie
+
+mul-at : tie.Need-mul-at
+mul-at c = search needs
+
+add-at : tie.Need-add-at
+add-at c = search needs
+
+mul-result : tie.Need-mul-result
+mul-result c = search needs
+
+shared-slice-read-result : tie.Need-shared-slice-read-result
+shared-slice-read-result c = search needs
+
+returns : tie.Need-returns
+unfolding numberAt
+returns c =
+    let a = c .before .before .before .args in
+    getD-any (now (a .numbers)) (a .i * 27 + a .f) _ _ (omega arith)
+
+returns-2 : tie.Need-returns-2
+unfolding numberAt
+returns-2 c =
+    let a = c .before .before .args in
+    getD-past (now (a .numbers)) (a .i * 27 + a .f) _ (omega arith)
+
+returns-3 : tie.Need-returns-3
+unfolding numberAt
+returns-3 c =
+    let a = c .before .args in
+    getD-past (now (a .numbers)) (a .i * 27 + a .f) _ (omega arith)
+
+pub number-spec : {M : Type 1} → statement M
+number-spec =
+    tie.close
+    (tie.spec mul-at add-at mul-result shared-slice-read-result returns returns-2 returns-3)

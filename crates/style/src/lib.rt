@@ -1,0 +1,291 @@
+// A node's style out of its words and numbers (the crate's src/style/*.rs).
+ghost use mathlib.Core.Path.{_≡_};
+ghost use Prim.Native.Nat.{_+_, _<_, _≤_};
+ghost use Rattle.style.specs.Codes.{codeAt, flagAt, clearFrom, kindOf, positionOf, overflowOf, alignOf, overflowXY, unitOf, lengthOf, ratioOf};
+ghost use Rattle.style.specs.Style.{wordAt, numberAt, lengthAt, sizeAt, rectAt, measureAt, styleAt};
+use length::Length;
+use length::LengthRect;
+use length::LengthSize;
+use util::OptionF32;
+
+pub enum Kind {
+    Block,
+    Leaf,
+    Hidden,
+}
+
+pub enum Position {
+    Static,
+    Relative,
+    Absolute,
+}
+
+pub enum Overflow {
+    Visible,
+    Clip,
+    Hidden,
+    Scroll,
+}
+
+pub enum AlignContent {
+    Normal,
+    Start,
+    Center,
+    End,
+}
+
+pub struct OverflowXY {
+    pub x: Overflow,
+    pub y: Overflow,
+}
+
+// A leaf's table: its widths under min-content and max-content, and its height.
+pub struct Measure {
+    pub least: f32,
+    pub most: f32,
+    pub height: f32,
+}
+
+pub struct Style {
+    pub kind: Kind,
+    pub content: bool,
+    pub rtl: bool,
+    pub position: Position,
+    pub overflow: OverflowXY,
+    pub align: AlignContent,
+    pub contained: bool,
+    pub size: LengthSize,
+    pub min: LengthSize,
+    pub max: LengthSize,
+    pub margin: LengthRect,
+    pub padding: LengthRect,
+    pub border: LengthRect,
+    pub inset: LengthRect,
+    pub ratio: OptionF32,
+    pub scrollbar: f32,
+    pub measure: Measure,
+}
+
+// The two bits at 2f.
+pub fn code(w: u32, f: u32) -> u32
+    requires { ⌜ f ≤ 15 ⌝ }
+    ensures { λ r. ⌜ r ≡ codeAt w f ⌝ }
+{
+    (w >> (2 * f)) & 3
+}
+
+pub fn flag(w: u32, k: u32) -> bool
+    requires { ⌜ k < 32 ⌝ }
+    ensures { λ r. ⌜ r ≡ flagAt w k ⌝ }
+{
+    ((w >> k) & 1) == 1
+}
+
+// No bit from k on is set.
+pub fn clear_from(w: u32, k: u32) -> bool
+    requires { ⌜ k < 32 ⌝ }
+    ensures { λ r. ⌜ r ≡ clearFrom w k ⌝ }
+{
+    w >> k == 0
+}
+
+fn kind_from(k: u32) -> Kind
+    ensures { λ r. ⌜ r ≡ kindOf k ⌝ }
+{
+    match k {
+        0 => Kind::Block,
+        1 => Kind::Leaf,
+        2 => Kind::Hidden,
+        _ => Kind::Hidden,
+    }
+}
+
+fn position_from(k: u32) -> Position
+    ensures { λ r. ⌜ r ≡ positionOf k ⌝ }
+{
+    match k {
+        0 => Position::Static,
+        1 => Position::Relative,
+        2 => Position::Absolute,
+        _ => Position::Absolute,
+    }
+}
+
+fn overflow_from(k: u32) -> Overflow
+    ensures { λ r. ⌜ r ≡ overflowOf k ⌝ }
+{
+    match k {
+        0 => Overflow::Visible,
+        1 => Overflow::Clip,
+        2 => Overflow::Hidden,
+        _ => Overflow::Scroll,
+    }
+}
+
+fn align_from(k: u32) -> AlignContent
+    ensures { λ r. ⌜ r ≡ alignOf k ⌝ }
+{
+    match k {
+        0 => AlignContent::Normal,
+        1 => AlignContent::Start,
+        2 => AlignContent::Center,
+        _ => AlignContent::End,
+    }
+}
+
+fn length_from(k: u32, x: f32) -> Length
+    ensures { λ r. ⌜ r ≡ lengthOf k x ⌝ }
+{
+    match k {
+        0 => Length::Auto,
+        1 => Length::Pixels(x),
+        2 => Length::Fraction(x),
+        _ => Length::Auto,
+    }
+}
+
+fn ratio_from(x: f32) -> OptionF32
+    ensures { λ r. ⌜ r ≡ ratioOf x ⌝ }
+{
+    if x == 0.0 {
+        OptionF32::None
+    } else {
+        OptionF32::Some(x)
+    }
+}
+
+// The unit of field f, of the two unit words.
+pub fn unit(u: u32, v: u32, f: u32) -> u32
+    requires { ⌜ f < 22 ⌝ }
+    ensures { λ r. ⌜ r ≡ unitOf u v f ⌝ }
+{
+    if f < 14 { code(u, f) } else { code(v, f - 14) }
+}
+
+// Word k of node i, and 0 past the end.
+pub fn word(words: &[u32], i: usize, k: usize) -> u32
+    requires { ⌜ k < 4 ⌝ }
+    ensures { λ r. ⌜ r ≡ wordAt (now (words .entry)) i k ⌝ }
+{
+    if i <= words.len() / 4 {
+        let at = i * 4 + k;
+        if at < words.len() {
+            return words[at];
+        }
+    }
+    0
+}
+
+// Number f of node i, and 0 past the end.
+pub fn number(numbers: &[f32], i: usize, f: usize) -> f32
+    requires { ⌜ f < 27 ⌝ }
+    ensures { λ r. ⌜ r ≡ numberAt (now (numbers .entry)) i f ⌝ }
+{
+    if i <= numbers.len() / 27 {
+        let at = i * 27 + f;
+        if at < numbers.len() {
+            return numbers[at];
+        }
+    }
+    0.0
+}
+
+pub fn length_at(words: &[u32], i: usize, numbers: &[f32], j: usize, f: usize) -> Length
+    requires { ⌜ f < 22 ⌝ }
+    ensures { λ r. ⌜ r ≡ lengthAt (now (words .entry)) i (now (numbers .entry)) j f ⌝ }
+{
+    let u = word(words, i, 2);
+    let v = word(words, i, 3);
+    length_from(unit(u, v, f as u32), number(numbers, j, f))
+}
+
+fn size_at(words: &[u32], i: usize, numbers: &[f32], j: usize, f: usize) -> LengthSize
+    requires { ⌜ f < 21 ⌝ }
+    ensures { λ r. ⌜ r ≡ sizeAt (now (words .entry)) i (now (numbers .entry)) j f ⌝ }
+{
+    LengthSize {
+        width: length_at(words, i, numbers, j, f),
+        height: length_at(words, i, numbers, j, f + 1),
+    }
+}
+
+fn rect_at(words: &[u32], i: usize, numbers: &[f32], j: usize, f: usize) -> LengthRect
+    requires { ⌜ f < 19 ⌝ }
+    ensures { λ r. ⌜ r ≡ rectAt (now (words .entry)) i (now (numbers .entry)) j f ⌝ }
+{
+    LengthRect {
+        top: length_at(words, i, numbers, j, f),
+        right: length_at(words, i, numbers, j, f + 1),
+        bottom: length_at(words, i, numbers, j, f + 2),
+        left: length_at(words, i, numbers, j, f + 3),
+    }
+}
+
+pub fn kind_of(w: u32) -> Kind
+    ensures { λ r. ⌜ r ≡ kindOf (codeAt w 0) ⌝ }
+{
+    kind_from(code(w, 0))
+}
+
+pub fn position_of(w: u32) -> Position
+    ensures { λ r. ⌜ r ≡ positionOf (codeAt w 2) ⌝ }
+{
+    position_from(code(w, 2))
+}
+
+fn align_of(w: u32) -> AlignContent
+    ensures { λ r. ⌜ r ≡ alignOf (codeAt w 5) ⌝ }
+{
+    align_from(code(w, 5))
+}
+
+fn overflow_of(w: u32) -> OverflowXY
+    ensures { λ r. ⌜ r ≡ overflowXY w ⌝ }
+{
+    OverflowXY {
+        x: overflow_from(code(w, 3)),
+        y: overflow_from(code(w, 4)),
+    }
+}
+
+fn measure_at(numbers: &[f32], j: usize) -> Measure
+    ensures { λ r. ⌜ r ≡ measureAt (now (numbers .entry)) j ⌝ }
+{
+    Measure {
+        least: number(numbers, j, 24),
+        most: number(numbers, j, 25),
+        height: number(numbers, j, 26),
+    }
+}
+
+fn ratio_at(numbers: &[f32], j: usize) -> OptionF32
+    ensures { λ r. ⌜ r ≡ ratioOf (numberAt (now (numbers .entry)) j 22) ⌝ }
+{
+    ratio_from(number(numbers, j, 22))
+}
+
+// The style of the node at i of the words and at j of the numbers.
+pub fn style_at(words: &[u32], i: usize, numbers: &[f32], j: usize) -> Style
+    ensures { λ r. ⌜ r ≡ styleAt (now (words .entry)) i (now (numbers .entry)) j ⌝ }
+{
+    let w = word(words, i, 1);
+    Style {
+        kind: kind_of(w),
+        content: flag(w, 2),
+        rtl: flag(w, 3),
+        position: position_of(w),
+        overflow: overflow_of(w),
+        align: align_of(w),
+        contained: flag(w, 12),
+        size: size_at(words, i, numbers, j, 0),
+        min: size_at(words, i, numbers, j, 2),
+        max: size_at(words, i, numbers, j, 4),
+        margin: rect_at(words, i, numbers, j, 6),
+        padding: rect_at(words, i, numbers, j, 10),
+        border: rect_at(words, i, numbers, j, 14),
+        inset: rect_at(words, i, numbers, j, 18),
+        ratio: ratio_at(numbers, j),
+        scrollbar: number(numbers, j, 23),
+        measure: measure_at(numbers, j),
+    }
+}

@@ -1,0 +1,21 @@
+use Rattle.util.specs.Maybe.{orZero}
+use borrow.Author.Needs.{needs}
+use Rattle.util.proofs.OptionF32.or_zero.Statement.{statement}
+use Rattle.util.proofs.OptionF32.or_zero.Tie as tie
+
+enum-told : tie.Need-enum-told
+enum-told c = search needs
+
+enum-known-self : tie.Need-enum-known-self
+enum-known-self c = search needs
+
+returns : tie.Need-returns
+unfolding orZero
+returns c = rw (c .enum-told .given .1)
+
+returns-2 : tie.Need-returns-2
+unfolding orZero
+returns-2 c = rw (c .before .self .given .1)
+
+pub or-zero-spec : {M : Type 1} → statement M
+or-zero-spec = tie.close (tie.spec enum-told enum-known-self returns returns-2)

@@ -1,0 +1,2 @@
+pub mod Math
+pub mod Maybe
