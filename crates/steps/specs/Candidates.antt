@@ -1,0 +1,69 @@
+-- The candidate list of finished rows.
+use mathlib.Core.Bool.{Bool, true, false, cond}
+use mathlib.Core.List.{List, [], _∷_, _++_, map}
+use Prim.Native.Nat.{ℕ, zero, suc, _+_}
+use lib.Ieee.{Float, add, binary32}
+use Rattle.style.specs.declared.Style.{Style}
+use Rattle.tree.specs.Tree.{Tree, Forest, node, none, more, countT}
+use Rattle.steps.specs.Width.{flowOf}
+use Rattle.steps.specs.Row.{Row, isLaid, isOut}
+use Rattle.steps.specs.declared.Flow.{Flow}
+use Rattle.steps.specs.declared.Flow.the-variants.{Gone, Out, In}
+use Rattle.steps.specs.Page.{Site}
+
+pub record Candidate : Type 0 where
+  pub node : ℕ
+  pub order : ℕ
+  pub start : Float
+  pub end : Float
+  pub line : Float
+
+-- node and order lie in one slice, the rest in another
+abbrev pub candidateWords : Candidate → List ℕ
+candidateWords c = c .node ∷ c .order ∷ []
+
+abbrev pub candidateNumbers : Candidate → List Float
+candidateNumbers c = c .start ∷ c .end ∷ c .line ∷ []
+
+unfoldable pub candidateOf : ℕ → Row → Candidate
+candidateOf b r = record { node = b; order = r .order; start = r .x; end = r .w; line = r .y }
+
+-- a place is added: x to start and end, y to line
+unfoldable pub movedBy : Row → Candidate → Candidate
+movedBy r c =
+    record {
+      node = c .node;
+      order = c .order;
+      start = add binary32 (c .start) (r .x);
+      end = add binary32 (c .end) (r .x);
+      line = add binary32 (c .line) (r .y);
+    }
+
+-- what one child adds, given the list of what is below it: itself if out of flow; if laid, those, moved by its place
+unfoldable pub candidatesAt : ℕ → Row → List Candidate → List Candidate
+candidatesAt b r below = cond (isOut r) (candidateOf b r ∷ []) (cond (isLaid r) (map (movedBy r) below) [])
+
+-- In preorder; b is the number of the first node. Innermost places are added first.
+unfoldable mutual
+  pub candidatesT : ℕ → Tree Row → List Candidate
+  candidatesT b (node r ks) = candidatesAt b r (candidatesF (suc b) ks)
+
+  pub candidatesF : ℕ → Forest Row → List Candidate
+  candidatesF b none = []
+  candidatesF b (more t ts) = candidatesT b t ++ candidatesF (b + countT t) ts
+
+-- the page's list: the root's place is not added
+unfoldable pub candidates : Tree Row → List Candidate
+candidates (node r ks) = candidatesF 1 ks
+
+-- how many records are needed: shown out-of-flow children below no hidden node or other such child
+unfoldable mutual
+  pub neededT : Tree Site → ℕ
+  neededT (node l ks) = elim (flowOf (l .style)) [ Gone ↦ 0 | Out ↦ 1 | In ↦ neededF ks ]
+
+  pub neededF : Forest Site → ℕ
+  neededF none = 0
+  neededF (more t ts) = neededT t + neededF ts
+
+unfoldable pub needed : Tree Site → ℕ
+needed (node l ks) = neededF ks

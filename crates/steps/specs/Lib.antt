@@ -1,0 +1,14 @@
+pub mod Sizing
+pub mod Width
+pub mod Edges
+pub mod Stack
+pub mod Height
+pub mod Row
+pub mod Page
+pub mod Probe
+pub mod Kept
+pub mod Layout
+pub mod Candidates
+pub mod Scan
+pub mod Noes
+pub mod Results

@@ -1,0 +1,187 @@
+-- The eight noes: for each the test of one node (or of the whole), in the words of document 01, and its place.
+use mathlib.Core.Bool.{Bool, true, false, cond, not, _&&_, _||_}
+use mathlib.Core.List.{List, [], _∷_}
+use Prim.Native.Nat.{ℕ, zero, suc, _+_, _*_, _-_, _/_, min}
+use lib.ListN.{length, getD}
+use lib.Dec.{eqb, ltb, leb}
+use lib.Ieee.{Float, eq, lt, neg, ofBits, binary32}
+use Rattle.geometry.specs.Geometry.{zeroF}
+use Rattle.limits.specs.Limits.{inRange, tooLarge}
+use Rattle.util.specs.declared.OptionF32.{OptionF32}
+use Rattle.util.specs.declared.OptionF32.the-variants.{None, Some}
+use Rattle.length.specs.Available.{definite}
+use Rattle.style.specs.Codes.{codeAt, clearFrom, flagAt, unitOf}
+use Rattle.style.specs.Style.{wordAt, numberAt}
+use Rattle.steps.specs.Scan.{scan, lowest, some, howMany}
+use Rattle.steps.specs.Page.{nodesIn, pageOf}
+use Rattle.steps.specs.Candidates.{needed}
+use Rattle.steps.specs.declared.LayoutInput.{LayoutInput}
+use Rattle.steps.specs.declared.Answer.{Answer}
+use Rattle.steps.specs.declared.Answer.the-variants.{Done, Lengths, Tree, Codes, Numbers, Room, Edits, NotLaid, TooLarge}
+use Rattle.steps.specs.declared.Tested.{Tested}
+use Rattle.steps.specs.declared.Tested.the-variants.{Pass, Refuse}
+use Rattle.steps.specs.declared.Found.{Found}
+use Rattle.steps.specs.declared.Found.the-variants.{Nowhere, At}
+
+-- this paper's number and place of each answer
+unfoldable pub paper : Answer → ℕ × ℕ
+paper (Done n) = (0, n)
+paper Lengths = (1, 0)
+paper (Tree i) = (2, i .0)
+paper (Codes i) = (3, i .0)
+paper (Numbers k) = (4, k)
+paper Room = (5, 0)
+paper (Edits k) = (6, k)
+paper NotLaid = (7, 0)
+paper (TooLarge i) = (8, i .0)
+
+-- a test that refuses, and tests in order
+abbrev pub refuseIf : Bool → Answer → Tested
+refuseIf b a = cond b (Refuse a) Pass
+
+unfoldable pub andThen : Tested → Tested → Tested
+andThen Pass r = r
+andThen (Refuse a) r = Refuse a
+
+-- 1: no node, over 1,024, or slice lengths not 4n and 27n (and 16n, 2n)
+unfoldable pub badTables : List ℕ → List Float → Bool
+badTables ws xs =
+    eqb (nodesIn ws) 0 || (ltb 1024 (nodesIn ws) || (not (eqb (length ws) (4 * nodesIn ws)) || not (eqb (length xs) (27 * nodesIn ws))))
+
+unfoldable pub badRows : List ℕ → List Float → List ℕ → Bool
+badRows ws rs ms = not (eqb (length rs) (16 * nodesIn ws)) || not (eqb (length ms) (2 * nodesIn ws))
+
+-- 2: where the run of node i ends
+abbrev pub endAt : List ℕ → ℕ → ℕ
+endAt ws i = i + wordAt ws i 0
+
+-- 2: j's run holds i. Where no lower node is at fault these j are the ancestors of i.
+unfoldable pub holds : List ℕ → ℕ → ℕ → Bool
+holds ws i j = ltb i (endAt ws j)
+
+-- 2: root size not n, size 0, past the parent's end, leaf above size 1, depth over 32 (root is 1)
+unfoldable pub badTree : List ℕ → ℕ → Bool
+badTree ws i =
+    (eqb i 0 && not (eqb (wordAt ws i 0) (nodesIn ws)))
+    || (eqb (wordAt ws i 0) 0
+    || (some (λ j. holds ws i j && ltb (endAt ws j) (endAt ws i)) i
+    || ((eqb (codeAt (wordAt ws i 1) 0) 1 && ltb 1 (wordAt ws i 0)) || leb 32 (howMany (holds ws i) i))))
+
+-- 3: auto is forbidden in 10-17, fractions in 1, 3, 5, 18, 20; there is no unit 3
+unfoldable pub noAuto : ℕ → Bool
+noAuto f = leb 10 f && ltb f 18
+
+unfoldable pub noFraction : ℕ → Bool
+noFraction f = eqb f 1 || (eqb f 3 || (eqb f 5 || (eqb f 18 || eqb f 20)))
+
+unfoldable pub badUnit : ℕ → ℕ → Bool
+badUnit f unit = eqb unit 3 || ((eqb unit 0 && noAuto f) || (eqb unit 2 && noFraction f))
+
+-- 3: unknown code, unused bit set, forbidden unit, root not a block
+unfoldable pub badCodes : List ℕ → ℕ → Bool
+badCodes ws i =
+    eqb (codeAt (wordAt ws i 1) 0) 3
+    || (eqb (codeAt (wordAt ws i 1) 2) 3
+    || (not (clearFrom (wordAt ws i 1) 13)
+    || (not (clearFrom (wordAt ws i 2) 28)
+    || (not (clearFrom (wordAt ws i 3) 16)
+    || (some (λ f. badUnit f (unitOf (wordAt ws i 2) (wordAt ws i 3) f)) 22 || (eqb i 0 && not (eqb (codeAt (wordAt ws i 1) 0) 0)))))))
+
+-- the literals 65536.0, 1.0, 1/64 and 64.0
+abbrev pub mostPixels : Float
+mostPixels = ofBits binary32 0x4780_0000
+
+abbrev pub oneF : Float
+oneF = ofBits binary32 0x3f80_0000
+
+abbrev pub leastRatio : Float
+leastRatio = ofBits binary32 0x3c80_0000
+
+abbrev pub mostRatio : Float
+mostRatio = ofBits binary32 0x4280_0000
+
+-- 4: negative only in 6-9 and 18-21
+unfoldable pub signed : ℕ → Bool
+signed f = (leb 6 f && ltb f 10) || (leb 18 f && ltb f 22)
+
+-- 4: pixels at most 65,536 in magnitude, fractions at most 1; auto fields are checked as pixels
+unfoldable pub mostOf : ℕ → Float
+mostOf unit = cond (eqb unit 2) oneF mostPixels
+
+unfoldable pub badField : ℕ → ℕ → Float → Bool
+badField f unit x = not (inRange x (cond (signed f) (neg (mostOf unit)) zeroF) (mostOf unit))
+
+-- 4: from 0 to 65,536
+abbrev pub badPixels : Float → Bool
+badPixels x = not (inRange x zeroF mostPixels)
+
+-- 4: ratio 0 or 1/64 to 64
+unfoldable pub badRatio : Float → Bool
+badRatio x = not (eq x zeroF) && not (inRange x leastRatio mostRatio)
+
+-- 4: node number NaN, infinite or out of range; 24 not above 25
+unfoldable pub badNumbers : List ℕ → List Float → ℕ → Bool
+badNumbers ws xs i =
+    some (λ f. badField f (unitOf (wordAt ws i 2) (wordAt ws i 3) f) (numberAt xs i f)) 22
+    || (badRatio (numberAt xs i 22)
+    || (badPixels (numberAt xs i 23)
+    || (badPixels (numberAt xs i 24)
+    || (badPixels (numberAt xs i 25) || (badPixels (numberAt xs i 26) || lt (numberAt xs i 25) (numberAt xs i 24))))))
+
+-- 4: else a question number so
+unfoldable pub badOption : OptionF32 → Bool
+badOption None = false
+badOption (Some x) = badPixels x
+
+unfoldable pub badQuestion : LayoutInput → Bool
+badQuestion q = badOption (q .known .width) || (badOption (q .known .height) || (badOption (q .parent) || badOption (definite (q .available))))
+
+-- 5: records lent are the smaller of whole twos and whole threes
+abbrev pub recordsIn : List ℕ → List Float → ℕ
+recordsIn cw cx = min (length cw / 2) (length cx / 3)
+
+-- 6: an edit not below n, or over 64 edits; the first bad index among the first 64, else 64
+unfoldable pub badEdit : List ℕ → ℕ → ℕ → Bool
+badEdit es n k = not (ltb (getD es k 0) n)
+
+-- 8: a row number 0-13 of magnitude 16,777,216 or more, or NaN
+unfoldable pub badRow : List Float → ℕ → Bool
+badRow rs i = some (λ k. tooLarge (getD rs (16 * i + k) zeroF)) 14
+
+-- a node at fault refuses
+unfoldable pub atFault : (ℕ → Answer) → Found → Tested
+atFault a Nowhere = Pass
+atFault a (At i) = Refuse (a (i .0))
+
+-- The tests in order, each with its place.
+unfoldable pub no2 : List ℕ → Tested
+no2 ws = atFault (λ i. Tree (record { 0 = i })) (lowest (badTree ws) (nodesIn ws))
+
+unfoldable pub no3 : List ℕ → Tested
+no3 ws = atFault (λ i. Codes (record { 0 = i })) (lowest (badCodes ws) (nodesIn ws))
+
+unfoldable pub no4 : List ℕ → List Float → LayoutInput → Tested
+no4 ws xs q = andThen (atFault Numbers (lowest (badNumbers ws xs) (nodesIn ws))) (refuseIf (badQuestion q) (Numbers (nodesIn ws)))
+
+unfoldable pub no5 : List ℕ → List Float → List ℕ → List Float → Tested
+no5 ws xs cw cx = refuseIf (ltb (recordsIn cw cx) (needed (pageOf ws xs []))) Room
+
+unfoldable pub no6 : List ℕ → ℕ → Tested
+no6 es n = andThen (atFault Edits (lowest (badEdit es n) (min 64 (length es)))) (refuseIf (ltb 64 (length es)) (Edits 64))
+
+unfoldable pub no7 : List ℕ → Tested
+no7 ms = refuseIf (not (flagAt (getD ms 1 0) 0)) NotLaid
+
+-- 2 to 4, which every call tests
+unfoldable pub pageTested : List ℕ → List Float → LayoutInput → Tested
+pageTested ws xs q = andThen (no2 ws) (andThen (no3 ws) (no4 ws xs q))
+
+unfoldable pub layoutTested : List ℕ → List Float → List Float → List ℕ → List ℕ → List Float → LayoutInput → Tested
+layoutTested ws xs rs ms cw cx q =
+    andThen (refuseIf (badTables ws xs || badRows ws rs ms) Lengths) (andThen (pageTested ws xs q) (no5 ws xs cw cx))
+
+unfoldable pub relayoutTested : List ℕ → List Float → List Float → List ℕ → List ℕ → List Float → List ℕ → LayoutInput → Tested
+relayoutTested ws xs rs ms cw cx es q = andThen (layoutTested ws xs rs ms cw cx q) (andThen (no6 es (nodesIn ws)) (no7 ms))
+
+unfoldable pub sizeTested : List ℕ → List Float → LayoutInput → Tested
+sizeTested ws xs q = andThen (refuseIf (badTables ws xs) Lengths) (pageTested ws xs q)

@@ -1,0 +1,173 @@
+-- Step J: the children of a block, one below the other.
+use mathlib.Core.Bool.{Bool, true, false, cond, not, _&&_}
+use Prim.Native.Nat.{_+_}
+use lib.Ieee.{Float, add, sub, div, neg, binary32}
+use Rattle.geometry.specs.Geometry.{zeroF, across, down}
+use Rattle.geometry.specs.declared.Point.{Point}
+use Rattle.geometry.specs.declared.Line.{Line}
+use Rattle.geometry.specs.declared.Rect.{Rect}
+use Rattle.util.specs.Math.{larger, clamped}
+use Rattle.util.specs.Maybe.{unwrapOr, orZero, orElse, clampOpt, floorOpt}
+use Rattle.util.specs.declared.OptionF32.{OptionF32}
+use Rattle.util.specs.declared.OptionF32.the-variants.{None, Some}
+use Rattle.length.specs.Length.{resolved, resolvedRect, isAuto}
+use Rattle.length.specs.declared.AvailableSpace.the-variants.{MaxContent}
+use Rattle.length.specs.declared.LengthRect.{LengthRect}
+use Rattle.style.specs.declared.Position.{Position}
+use Rattle.style.specs.declared.Position.the-variants.{Static, Relative, Absolute}
+use Rattle.style.specs.declared.Style.{Style}
+use Rattle.margin.specs.Margin.{noMargins, joined, joinedWith, sumOf}
+use Rattle.margin.specs.declared.CollapsibleMarginSet.{CollapsibleMarginSet}
+use Rattle.alignment.specs.Align.{twoF}
+use Rattle.steps.specs.Sizing.{heightBasis, stepA}
+use Rattle.steps.specs.Edges.{plainBlock}
+use Rattle.steps.specs.declared.LayoutInput.{LayoutInput}
+use Rattle.steps.specs.declared.LayoutOutput.{LayoutOutput}
+use Rattle.steps.specs.declared.Frame.{Frame}
+use Rattle.steps.specs.declared.BlockItem.{BlockItem}
+use Rattle.steps.specs.declared.Cursor.{Cursor}
+
+-- inner is W less insets
+unfoldable pub innerWidth : Frame → Float
+innerWidth f = sub binary32 (f .width) (across (f .inset))
+
+-- y is the top inset; the sets are empty, nothing is stacked yet
+unfoldable pub startOf : Frame → Cursor
+startOf f = record { y = f .inset .top; strut = noMargins; top = noMargins; first = true; through = true; shown = record { 0 = 0 }; count = 0 }
+
+unfoldable pub negOpt : OptionF32 → OptionF32
+negOpt None = None
+negOpt (Some x) = Some (neg x)
+
+-- the offset of a relative box: left else -right, in RTL -right else left; top else -bottom
+unfoldable pub relativeOffset : LengthRect → Bool → OptionF32 → Point
+relativeOffset i rtl basis =
+    record {
+      x = orZero (cond rtl (orElse (negOpt (resolved (i .right) basis)) (resolved (i .left) basis)) (orElse (resolved (i .left) basis) (negOpt (resolved (i .right) basis))));
+      y = orZero (orElse (resolved (i .top) heightBasis) (negOpt (resolved (i .bottom) heightBasis)));
+    }
+
+unfoldable pub offsetBy : Position → LengthRect → Bool → OptionF32 → Point
+offsetBy Static i rtl basis = record { x = zeroF; y = zeroF }
+offsetBy Relative i rtl basis = relativeOffset i rtl basis
+offsetBy Absolute i rtl basis = record { x = zeroF; y = zeroF }
+
+-- E's numbers; margins and side offsets against inner width, an auto margin counts 0 at first
+unfoldable pub itemOf : Frame → Style → BlockItem
+itemOf f s =
+    record {
+      sizing = stepA s (f .basis);
+      margin = resolvedRect (s .margin) (Some (innerWidth f));
+      left = isAuto (s .margin .left);
+      right = isAuto (s .margin .right);
+      offset = offsetBy (s .position) (s .inset) (f .rtl) (Some (innerWidth f));
+    }
+
+-- width = size or inner - margins, clamped, larger with padding+border
+unfoldable pub askedWidth : Frame → BlockItem → Float
+askedWidth f i =
+    larger
+    (clamped (unwrapOr (i .sizing .size .width) (sub binary32 (innerWidth f) (across (i .margin)))) (i .sizing .min .width) (i .sizing .max .width))
+    (across (i .sizing .both))
+
+-- a height is asked only if the size has one
+unfoldable pub askedHeight : BlockItem → OptionF32
+askedHeight i = floorOpt (clampOpt (i .sizing .size .height) (i .sizing .min .height) (i .sizing .max .height)) (down (i .sizing .both))
+
+-- the question put to a child: both flags true if it is an in-flow block without new context; with a width known no available width is read
+unfoldable pub childInput : Frame → Style → BlockItem → LayoutInput
+childInput f s i =
+    record {
+      known = record { width = Some (askedWidth f i); height = askedHeight i };
+      parent = Some (innerWidth f);
+      available = MaxContent;
+      start = plainBlock s;
+      end = plainBlock s;
+      nested = true;
+    }
+
+unfoldable pub stepJ : Frame → Style → LayoutInput
+stepJ f s = childInput f s (itemOf f s)
+
+-- T and B: its sets joined with its own margins
+unfoldable pub topMargins : BlockItem → LayoutOutput → CollapsibleMarginSet
+topMargins i o = joinedWith (o .top) (i .margin .top)
+
+unfoldable pub bottomMargins : BlockItem → LayoutOutput → CollapsibleMarginSet
+bottomMargins i o = joinedWith (o .bottom) (i .margin .bottom)
+
+-- still at the top with own start
+unfoldable pub atTop : Frame → Cursor → Bool
+atTop f c = c .first && f .start
+
+-- gap is 0 while still at the top with own start, else the sum of strut joined T
+unfoldable pub gapOf : Frame → Cursor → CollapsibleMarginSet → Float
+gapOf f c t = cond (atTop f c) zeroF (sumOf (joined (c .strut) t))
+
+-- free = larger(0, (inner-w)-margins)
+unfoldable pub freeOf : Frame → BlockItem → Float → Float
+freeOf f i w = larger zeroF (sub binary32 (sub binary32 (innerWidth f) w) (across (i .margin)))
+
+-- free space to one auto margin, or half to each
+unfoldable pub shareOf : Bool → Bool → Float → Float → Float
+shareOf own other margin free = cond own (cond other (div binary32 free twoF) free) margin
+
+-- place x: LTR (left inset+left margin)+offset; RTL (((W-right inset)-right margin)-w)+offset
+unfoldable pub placeX : Frame → BlockItem → Float → Float
+placeX f i w =
+    cond (f .rtl)
+    (add binary32 (sub binary32 (sub binary32 (sub binary32 (f .width) (f .inset .right)) (shareOf (i .right) (i .left) (i .margin .right) (freeOf f i w))) w) (i .offset .x))
+    (add binary32 (add binary32 (f .inset .left) (shareOf (i .left) (i .right) (i .margin .left) (freeOf f i w))) (i .offset .x))
+
+-- place y: (y+gap)+offset
+unfoldable pub placeY : Frame → Cursor → BlockItem → LayoutOutput → Float
+placeY f c i o = add binary32 (add binary32 (c .y) (gapOf f c (topMargins i o))) (i .offset .y)
+
+unfoldable pub placeOf : Frame → Cursor → BlockItem → LayoutOutput → Point
+placeOf f c i o = record { x = placeX f i (o .size .width); y = placeY f c i o }
+
+-- through: strut takes T and B, and so does the top set if at the top
+unfoldable pub pastThrough : Cursor → CollapsibleMarginSet → CollapsibleMarginSet → Cursor
+pastThrough c t b =
+    record {
+      y = c .y;
+      strut = joined (joined (c .strut) t) b;
+      top = cond (c .first) (joined (joined (c .top) t) b) (c .top);
+      first = c .first;
+      through = c .through;
+      shown = record { 0 = c .shown .0 + 1 };
+      count = c .count + 1;
+    }
+
+-- else: the top set takes T if at the top, y = (y+gap)+h, strut = B, no longer at the top
+unfoldable pub pastBox : Frame → Cursor → CollapsibleMarginSet → CollapsibleMarginSet → Float → Cursor
+pastBox f c t b h =
+    record {
+      y = add binary32 (add binary32 (c .y) (gapOf f c t)) h;
+      strut = b;
+      top = cond (c .first) (joined (c .top) t) (c .top);
+      first = false;
+      through = false;
+      shown = record { 0 = c .shown .0 + 1 };
+      count = c .count + 1;
+    }
+
+unfoldable pub stepped : Frame → Cursor → BlockItem → LayoutOutput → Cursor
+stepped f c i o =
+    cond (o .through) (pastThrough c (topMargins i o) (bottomMargins i o)) (pastBox f c (topMargins i o) (bottomMargins i o) (o .size .height))
+
+-- out-of-flow line: y + strut's sum (0 instead while at the top with own start)
+unfoldable pub lineOf : Frame → Cursor → Float
+lineOf f c = add binary32 (c .y) (cond (atTop f c) zeroF (sumOf (c .strut)))
+
+-- start and end are the inner edges
+unfoldable pub edgesOf : Frame → Line
+edgesOf f = record { start = f .inset .left; end = sub binary32 (f .width) (f .inset .right) }
+
+-- past an out-of-flow child, which counts as shown, and past a hidden one, which does not
+unfoldable pub pastAside : Cursor → Cursor
+pastAside c =
+    record { y = c .y; strut = c .strut; top = c .top; first = c .first; through = c .through; shown = record { 0 = c .shown .0 + 1 }; count = c .count + 1 }
+
+unfoldable pub pastHidden : Cursor → Cursor
+pastHidden c = record { y = c .y; strut = c .strut; top = c .top; first = c .first; through = c .through; shown = c .shown; count = c .count + 1 }

@@ -1,0 +1,136 @@
+// What the steps of document 01 pass on, by value. The steps themselves are definitions: specs/.
+use geometry::Point;
+use geometry::Rect;
+use geometry::Size;
+use length::AvailableSpace;
+use margin::CollapsibleMarginSet;
+use margin::NodeId;
+use margin::Order;
+use util::OptionF32;
+use util::OptionSize;
+
+// A final question. `start` and `end` are the collapsible flags; `nested` is false at the root alone.
+pub struct LayoutInput {
+    pub known: OptionSize,
+    pub parent: OptionF32,
+    pub available: AvailableSpace,
+    pub start: bool,
+    pub end: bool,
+    pub nested: bool,
+}
+
+// Its answer.
+pub struct LayoutOutput {
+    pub size: Size,
+    pub top: CollapsibleMarginSet,
+    pub bottom: CollapsibleMarginSet,
+    pub through: bool,
+}
+
+// A probe: width only, no width known, no parent width.
+pub struct ProbeInput {
+    pub height: OptionF32,
+    pub available: AvailableSpace,
+}
+
+// Step A of a box, against one basis. `both` is padding+border side by side.
+pub struct Sizing {
+    pub padding: Rect,
+    pub border: Rect,
+    pub both: Rect,
+    pub size: OptionSize,
+    pub min: OptionSize,
+    pub max: OptionSize,
+}
+
+// How a child takes part: not at all, as a candidate, in the stack.
+pub enum Flow {
+    Gone,
+    Out,
+    In,
+}
+
+// What step F wants of a child: nothing, its outer width, or a probe.
+pub enum Want {
+    Nothing,
+    Outer(f32),
+    Probe(ProbeInput),
+}
+
+// A container after steps A to I: its outer width and known height, the insets, the limits of its height, and what its edges do.
+pub struct Frame {
+    pub width: f32,
+    pub height: OptionF32,
+    pub inset: Rect,
+    pub floor: f32,
+    pub min: OptionF32,
+    pub max: OptionF32,
+    pub basis: OptionF32,
+    pub start: bool,
+    pub end: bool,
+    pub hollow: bool,
+    pub rtl: bool,
+}
+
+// A child of the stack: step E's numbers, margins (auto counts 0), which side margins are auto, the relative offset.
+pub struct BlockItem {
+    pub sizing: Sizing,
+    pub margin: Rect,
+    pub left: bool,
+    pub right: bool,
+    pub offset: Point,
+}
+
+// Where the stack stands: y, the strut, the top set, still at the top, all shown children through so far, and two counts of siblings.
+pub struct Cursor {
+    pub y: f32,
+    pub strut: CollapsibleMarginSet,
+    pub top: CollapsibleMarginSet,
+    pub first: bool,
+    pub through: bool,
+    pub shown: Order,
+    pub count: u32,
+}
+
+// A container after steps K to N.
+pub struct Finished {
+    pub output: LayoutOutput,
+    pub shift: OptionF32,
+}
+
+// What a layout or a relayout answers.
+pub enum Answer {
+    Done(u32),
+    Lengths,
+    Tree(NodeId),
+    Codes(NodeId),
+    Numbers(u32),
+    Room,
+    Edits(u32),
+    NotLaid,
+    TooLarge(NodeId),
+}
+
+// What a size question answers.
+pub enum SizeAnswer {
+    Sized(Size),
+    Refused(Answer),
+}
+
+// The tests before any write.
+pub enum Tested {
+    Pass,
+    Refuse(Answer),
+}
+
+// The lowest node at fault.
+pub enum Found {
+    Nowhere,
+    At(NodeId),
+}
+
+// Which size a size question wants.
+pub enum RequestedAxis {
+    Horizontal,
+    Both,
+}
