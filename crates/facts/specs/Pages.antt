@@ -24,8 +24,8 @@ use Rattle.tree.specs.Tree.{Tree, countT, flatT, mapT, rootT, onRoot}
 use Rattle.tree.specs.Table.{from, parseF, parseT}
 use Rattle.steps.specs.Sizing.{heightBasis, boxSize, sizedBy, stepA, decided, knownAxis, stepB, filled, stepD, knownOf, barOf, gutter, insets, stepE}
 use Rattle.steps.specs.Width.{positioned, flowBy, flowOf, isLeaf, sideMargins, outerOf, outerWidth, wantBy, wantSized, wantIn, stepF, contentWidth, leafWidth}
-use Rattle.steps.specs.Edges.{stepH, clips, isNormal, newContext, isIn, plainBlock, adjoins, openBox, framed, frameBy, frameOf}
-use Rattle.steps.specs.Stack.{innerWidth, startOf, negOpt, relativeOffset, offsetBy, itemOf, askedWidth, askedHeight, childInput, stepJ, topMargins, bottomMargins, atTop, gapOf, freeOf, shareOf, placeX, placeY, placeOf, pastThrough, pastBox, stepped, lineOf, edgesOf, pastAside, pastHidden}
+use Rattle.steps.specs.Edges.{stepH, clips, isNormal, newContext, isIn, plainBlock, adjoins, openBox, hollowBox, ownEndOf, framed, frameBy, frameOf}
+use Rattle.steps.specs.Stack.{innerWidth, startOf, negOpt, offsetX, relativeOffset, offsetBy, itemOf, askedWidth, askedHeight, childInput, stepJ, topMargins, bottomMargins, atTop, gapOf, freeOf, shareOf, placeX, placeY, placeOf, pastThrough, pastBox, stepped, lineOf, edgesOf, pastAside, pastHidden}
 use Rattle.steps.specs.Height.{extraOf, stepK, stepL, heldOpen, ownEnd, stepM, stepN, passedOut, outputOf, finished, leafOutput}
 use Rattle.steps.specs.Row.{isLaid, isOut, availableKind, probeCode, noProbe, probeNote, probeOf, withCode, noted, bare, noRow, hiddenRow, asideRow, laidRow, outputIn, putAt, lowered}
 use Rattle.steps.specs.Page.{Site, named, anyT, siteAt, cellAt, pageOf, cellsOf, blank, cleared, staying, probedAnew, edits}
@@ -110,5 +110,5 @@ table =
 
 -- every page of the table gives what it should
 pub checked-pages : map resultOf table ≡ map (λ (p : Checked). p .expected) table
-unfolding sumAxes plus sameF tooLarge larger smaller capped floored clamped unwrapOr orZero orElse isSome addOpt subOpt clampOpt floorOpt widthFrom heightFrom ratioFills addSize scaled resolved resolvedOrZero isAuto resolvedRect resolvedSize availableLess definite kindOf positionOf overflowOf overflowXY alignOf unitOf lengthOf ratioOf wordAt numberAt lengthAt sizeAt rectAt measureAt styleAt noMargins setOf joined joinedWith sumOf alignShift countT flatT mapT rootT onRoot from parseF parseT heightBasis boxSize sizedBy stepA decided knownAxis stepB filled stepD knownOf barOf gutter insets stepE positioned flowBy flowOf isLeaf sideMargins outerOf outerWidth wantBy wantSized wantIn stepF contentWidth leafWidth stepH clips isNormal newContext isIn plainBlock adjoins openBox framed frameBy frameOf innerWidth startOf negOpt relativeOffset offsetBy itemOf askedWidth askedHeight childInput stepJ topMargins bottomMargins atTop gapOf freeOf shareOf placeX placeY placeOf pastThrough pastBox stepped lineOf edgesOf pastAside pastHidden extraOf stepK stepL heldOpen ownEnd stepM stepN passedOut outputOf finished leafOutput isLaid isOut availableKind probeCode noProbe probeNote probeOf withCode noted bare noRow hiddenRow asideRow laidRow outputIn putAt lowered named anyT siteAt cellAt pageOf cellsOf blank cleared staying probedAnew edits finalStands editedNode kept keptRow laidBits belowRow zerosT zerosF fixT keep lowerF alignF leafLaid blockLaid skip aside place layT askT relaid fresh rowsOut axes stepG sizeBelow widthKnown stepC sizeOf probe.probeStands probe.answered probe.probeKnown probe.spaceIn probe.widthFrom probe.asked probe.blockProbe probe.stay probe.widen probe.probeT probe.askP probe.passBy probe.widthPass numbersOf questionOf readAt sizeBits answerTo resultOf table ofBits toBits add sub mul div lt le eq neg
+unfolding sumAxes plus sameF tooLarge larger smaller capped floored clamped unwrapOr orZero orElse isSome addOpt subOpt clampOpt floorOpt widthFrom heightFrom ratioFills addSize scaled resolved resolvedOrZero isAuto resolvedRect resolvedSize availableLess definite kindOf positionOf overflowOf overflowXY alignOf unitOf lengthOf ratioOf wordAt numberAt lengthAt sizeAt rectAt measureAt styleAt noMargins setOf joined joinedWith sumOf alignShift countT flatT mapT rootT onRoot from parseF parseT heightBasis boxSize sizedBy stepA decided knownAxis stepB filled stepD knownOf barOf gutter insets stepE positioned flowBy flowOf isLeaf sideMargins outerOf outerWidth wantBy wantSized wantIn stepF contentWidth leafWidth stepH clips isNormal newContext isIn plainBlock adjoins openBox hollowBox ownEndOf framed frameBy frameOf innerWidth startOf negOpt offsetX relativeOffset offsetBy itemOf askedWidth askedHeight childInput stepJ topMargins bottomMargins atTop gapOf freeOf shareOf placeX placeY placeOf pastThrough pastBox stepped lineOf edgesOf pastAside pastHidden extraOf stepK stepL heldOpen ownEnd stepM stepN passedOut outputOf finished leafOutput isLaid isOut availableKind probeCode noProbe probeNote probeOf withCode noted bare noRow hiddenRow asideRow laidRow outputIn putAt lowered named anyT siteAt cellAt pageOf cellsOf blank cleared staying probedAnew edits finalStands editedNode kept keptRow laidBits belowRow zerosT zerosF fixT keep lowerF alignF leafLaid blockLaid skip aside place layT askT relaid fresh rowsOut axes stepG sizeBelow widthKnown stepC sizeOf probe.probeStands probe.answered probe.probeKnown probe.spaceIn probe.widthFrom probe.asked probe.blockProbe probe.stay probe.widen probe.probeT probe.askP probe.passBy probe.widthPass numbersOf questionOf readAt sizeBits answerTo resultOf table ofBits toBits add sub mul div lt le eq neg
 checked-pages = refl

@@ -1,3 +1,4 @@
+pub mod Bools
 pub mod Limits
 pub mod Laws
 pub mod Same

@@ -59,6 +59,14 @@ adjoins s flag padding border = flag && (plainBlock s && (eq padding zeroF && eq
 unfoldable pub openBox : Rect → Rect → Bool
 openBox padding border = not (lt zeroF (padding .top)) && (not (lt zeroF (padding .bottom)) && (not (lt zeroF (border .top)) && not (lt zeroF (border .bottom))))
 
+-- N: what of it the box alone decides: below the root, in-flow block without new context, open
+unfoldable pub hollowBox : Style → Bool → Rect → Rect → Bool
+hollowBox s nested padding border = nested && (plainBlock s && openBox padding border)
+
+-- I: own end = end adjoins and A gave no height
+unfoldable pub ownEndOf : Style → Bool → Float → Float → OptionF32 → Bool
+ownEndOf s flag padding border height = adjoins s flag padding border && not (isSome height)
+
 -- I, with H's padding and border
 unfoldable pub framed : Style → LayoutInput → Sizing → OptionSize → Float → Rect → Rect → Frame
 framed s q z known width padding border =
@@ -71,8 +79,8 @@ framed s q z known width padding border =
       max = z .max .height;
       basis = stepE known (insets s (z .both));
       start = adjoins s (q .start) (padding .top) (border .top);
-      end = adjoins s (q .end) (padding .bottom) (border .bottom) && not (isSome (z .size .height));
-      hollow = q .nested && (plainBlock s && openBox padding border);
+      end = ownEndOf s (q .end) (padding .bottom) (border .bottom) (z .size .height);
+      hollow = hollowBox s (q .nested) padding border;
       rtl = s .rtl;
     }
 

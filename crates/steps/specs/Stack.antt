@@ -1,6 +1,6 @@
 -- Step J: the children of a block, one below the other.
 use mathlib.Core.Bool.{Bool, true, false, cond, not, _&&_}
-use Prim.Native.Nat.{_+_}
+use Prim.Native.Nat.{_+_, _<_}
 use lib.Ieee.{Float, add, sub, div, neg, binary32}
 use Rattle.geometry.specs.Geometry.{zeroF, across, down}
 use Rattle.geometry.specs.declared.Point.{Point}
@@ -39,11 +39,15 @@ unfoldable pub negOpt : OptionF32 → OptionF32
 negOpt None = None
 negOpt (Some x) = Some (neg x)
 
--- the offset of a relative box: left else -right, in RTL -right else left; top else -bottom
+-- left else -right, in RTL -right else left
+unfoldable pub offsetX : OptionF32 → OptionF32 → Bool → Float
+offsetX left right rtl = cond rtl (orZero (orElse (negOpt right) left)) (orZero (orElse left (negOpt right)))
+
+-- the offset of a relative box; y is top else -bottom
 unfoldable pub relativeOffset : LengthRect → Bool → OptionF32 → Point
 relativeOffset i rtl basis =
     record {
-      x = orZero (cond rtl (orElse (negOpt (resolved (i .right) basis)) (resolved (i .left) basis)) (orElse (resolved (i .left) basis) (negOpt (resolved (i .right) basis))));
+      x = offsetX (resolved (i .left) basis) (resolved (i .right) basis) rtl;
       y = orZero (orElse (resolved (i .top) heightBasis) (negOpt (resolved (i .bottom) heightBasis)));
     }
 
@@ -171,3 +175,8 @@ pastAside c =
 
 unfoldable pub pastHidden : Cursor → Cursor
 pastHidden c = record { y = c .y; strut = c .strut; top = c .top; first = c .first; through = c .through; shown = c .shown; count = c .count + 1 }
+
+-- the counts of a cursor have room for one more
+pub record Counts (c : Cursor) : Type 0 where
+  pub shown : c .shown .0 < 4294967295
+  pub count : c .count < 4294967295

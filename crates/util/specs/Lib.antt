@@ -1,2 +1,4 @@
 pub mod Math
 pub mod Maybe
+pub mod Order
+pub mod Written

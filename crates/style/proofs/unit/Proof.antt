@@ -1,5 +1,5 @@
-use borrow.Author.Tests.{lt-ltb, le-ltb}
-use Rattle.style.specs.Codes.{unitOf}
+use mathlib.Core.Path.{_∙_}
+use Rattle.style.specs.Units.{unit-first, unit-second}
 use borrow.Author.Needs.{needs}
 use Rattle.style.proofs.unit.Statement.{statement}
 use Rattle.style.proofs.unit.Tie as tie
@@ -11,12 +11,14 @@ code-requires-2 : tie.Need-code-requires-2
 code-requires-2 c κs = search needs
 
 returns : tie.Need-returns
-unfolding unitOf
-returns c = rw (c .code .ensures, lt-ltb _ _ (c .before .if1 .taken))
+returns c =
+    let a = c .before .before .args in
+    c .code .ensures ∙ unit-first (a .u) (a .v) (a .f) (c .before .if1 .taken)
 
 returns-2 : tie.Need-returns-2
-unfolding unitOf
-returns-2 c = rw (c .code2 .ensures, le-ltb _ _ (c .before .if1 .left))
+returns-2 c =
+    let a = c .before .before .args in
+    c .code2 .ensures ∙ unit-second (a .u) (a .v) (a .f) (c .before .if1 .left)
 
 pub unit-spec : {M : Type 1} → statement M
 unit-spec = tie.close (tie.spec code-requires code-requires-2 returns returns-2)

@@ -1,14 +1,12 @@
-use Rattle.util.specs.Math.{larger}
+use Rattle.util.specs.Order.{larger-second, larger-first}
 use Rattle.util.proofs.f32_max.Statement.{statement}
 use Rattle.util.proofs.f32_max.Tie as tie
 
 returns : tie.Need-returns
-unfolding larger
-returns c = rw (c .if1 .taken)
+returns c = larger-second (c .before .args .a) (c .before .args .b) (c .if1 .taken)
 
 returns-2 : tie.Need-returns-2
-unfolding larger
-returns-2 c = rw (c .if1 .left)
+returns-2 c = larger-first (c .before .args .a) (c .before .args .b) (c .if1 .left)
 
 pub f32-max-spec : {M : Type 1} → statement M
 f32-max-spec = tie.close (tie.spec returns returns-2)

@@ -1,14 +1,12 @@
-use Rattle.util.specs.Math.{smaller}
+use Rattle.util.specs.Order.{smaller-second, smaller-first}
 use Rattle.util.proofs.f32_min.Statement.{statement}
 use Rattle.util.proofs.f32_min.Tie as tie
 
 returns : tie.Need-returns
-unfolding smaller
-returns c = rw (c .if1 .taken)
+returns c = smaller-second (c .before .args .a) (c .before .args .b) (c .if1 .taken)
 
 returns-2 : tie.Need-returns-2
-unfolding smaller
-returns-2 c = rw (c .if1 .left)
+returns-2 c = smaller-first (c .before .args .a) (c .before .args .b) (c .if1 .left)
 
 pub f32-min-spec : {M : Type 1} → statement M
 f32-min-spec = tie.close (tie.spec returns returns-2)

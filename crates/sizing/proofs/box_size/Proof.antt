@@ -1,0 +1,36 @@
+use Rattle.steps.specs.Sizing.{boxSize}
+use Rattle.steps.specs.Sizing.{heightBasis}
+use borrow.Author.Needs.{needs}
+use Rattle.sizing.proofs.box_size.Statement.{statement}
+use Rattle.sizing.proofs.box_size.Tie as tie
+
+resolve-axes-requires : tie.Need-resolve-axes-requires
+resolve-axes-requires c κs = search needs
+
+maybe-apply-aspect-ratio-requires : tie.Need-maybe-apply-aspect-ratio-requires
+maybe-apply-aspect-ratio-requires c κs = search needs
+
+sum-axes-requires : tie.Need-sum-axes-requires
+sum-axes-requires c κs = search needs
+
+maybe-add-requires : tie.Need-maybe-add-requires
+maybe-add-requires c κs = search needs
+
+returns : tie.Need-returns
+unfolding boxSize heightBasis
+returns c = rw (c .maybe-add .ensures, c .before .sum-axes .ensures, c .before .before .before .maybe-apply-aspect-ratio .ensures, c .before .before .if1 .taken, c .before .before .before .before .resolve-axes .ensures)
+
+returns-2 : tie.Need-returns-2
+unfolding boxSize heightBasis
+returns-2 c = rw (c .before .maybe-apply-aspect-ratio .ensures, c .if1 .left, c .before .before .resolve-axes .ensures)
+
+pub box-size-spec : {M : Type 1} → statement M
+box-size-spec =
+    tie.close
+    (tie.spec
+    resolve-axes-requires
+    maybe-apply-aspect-ratio-requires
+    sum-axes-requires
+    maybe-add-requires
+    returns
+    returns-2)

@@ -1,0 +1,38 @@
+use Rattle.steps.specs.Stack.{itemOf}
+use borrow.Author.Needs.{needs}
+use Rattle.stacking.proofs.item_of.Statement.{statement}
+use Rattle.stacking.proofs.item_of.Tie as tie
+
+inner-width-requires : tie.Need-inner-width-requires
+inner-width-requires c κs = search needs
+
+sizing-of-requires : tie.Need-sizing-of-requires
+sizing-of-requires c κs = search needs
+
+resolve-sides-requires : tie.Need-resolve-sides-requires
+resolve-sides-requires c κs = search needs
+
+is-auto-requires : tie.Need-is-auto-requires
+is-auto-requires c κs = search needs
+
+is-auto-requires-2 : tie.Need-is-auto-requires-2
+is-auto-requires-2 c κs = search needs
+
+offset-by-requires : tie.Need-offset-by-requires
+offset-by-requires c κs = search needs
+
+returns : tie.Need-returns
+unfolding itemOf
+returns c = rw (c .offset-by .ensures, c .before .is-auto2 .ensures, c .before .before .is-auto .ensures, c .before .before .before .resolve-sides .ensures, c .before .before .before .before .sizing-of .ensures, c .before .before .before .before .before .inner-width .ensures)
+
+pub item-of-spec : {M : Type 1} → statement M
+item-of-spec =
+    tie.close
+    (tie.spec
+    inner-width-requires
+    sizing-of-requires
+    resolve-sides-requires
+    is-auto-requires
+    is-auto-requires-2
+    offset-by-requires
+    returns)

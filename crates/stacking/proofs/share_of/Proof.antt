@@ -1,0 +1,17 @@
+use Rattle.steps.specs.Stack.{shareOf}
+use borrow.Author.Needs.{needs}
+use Rattle.stacking.proofs.share_of.Statement.{statement}
+use Rattle.stacking.proofs.share_of.Tie as tie
+
+pick-requires : tie.Need-pick-requires
+pick-requires c κs = search needs
+
+pick-requires-2 : tie.Need-pick-requires-2
+pick-requires-2 c κs = search needs
+
+returns : tie.Need-returns
+unfolding shareOf
+returns c = rw (c .pick2 .ensures, c .before .pick .ensures)
+
+pub share-of-spec : {M : Type 1} → statement M
+share-of-spec = tie.close (tie.spec pick-requires pick-requires-2 returns)

@@ -1,0 +1,35 @@
+use Rattle.steps.specs.Stack.{stepped}
+use borrow.Author.Needs.{needs}
+use Rattle.stacking.proofs.stepped_past.Statement.{statement}
+use Rattle.stacking.proofs.stepped_past.Tie as tie
+
+top-margins-requires : tie.Need-top-margins-requires
+top-margins-requires c κs = search needs
+
+bottom-margins-requires : tie.Need-bottom-margins-requires
+bottom-margins-requires c κs = search needs
+
+past-through-requires : tie.Need-past-through-requires
+past-through-requires c κs = search needs
+
+past-box-requires : tie.Need-past-box-requires
+past-box-requires c κs = search needs
+
+returns : tie.Need-returns
+unfolding stepped
+returns c = rw (c .past-through .ensures, c .before .before .bottom-margins .ensures, c .before .before .before .top-margins .ensures, c .before .if1 .taken)
+
+returns-2 : tie.Need-returns-2
+unfolding stepped
+returns-2 c = rw (c .past-box .ensures, c .before .before .bottom-margins .ensures, c .before .before .before .top-margins .ensures, c .before .if1 .left)
+
+pub stepped-past-spec : {M : Type 1} → statement M
+stepped-past-spec =
+    tie.close
+    (tie.spec
+    top-margins-requires
+    bottom-margins-requires
+    past-through-requires
+    past-box-requires
+    returns
+    returns-2)

@@ -1,0 +1,14 @@
+use Rattle.steps.specs.Stack.{topMargins}
+use borrow.Author.Needs.{needs}
+use Rattle.stacking.proofs.top_margins.Statement.{statement}
+use Rattle.stacking.proofs.top_margins.Tie as tie
+
+collapse-with-margin-requires : tie.Need-collapse-with-margin-requires
+collapse-with-margin-requires c κs = search needs
+
+returns : tie.Need-returns
+unfolding topMargins
+returns c = rw (c .collapse-with-margin .ensures)
+
+pub top-margins-spec : {M : Type 1} → statement M
+top-margins-spec = tie.close (tie.spec collapse-with-margin-requires returns)
