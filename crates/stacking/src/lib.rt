@@ -1,23 +1,19 @@
-// Steps J to N of one container: its children's questions and places, and its own answer (the crate's perform_final_layout_on_in_flow_children and the end of compute_inner).
+// Step J: a child's question and place, and the cursor past it (the crate's perform_final_layout_on_in_flow_children).
 ghost use mathlib.Core.Path.{_≡_};
-ghost use mathlib.Core.Bool.{cond, _||_};
+ghost use mathlib.Core.Bool.{cond};
 ghost use Prim.Native.Nat.{_+_, _<_};
 ghost use Rattle.steps.specs.Stack.{innerWidth, startOf, negOpt, offsetX, relativeOffset, offsetBy, itemOf, askedWidth, askedHeight, childInput, stepJ, topMargins, bottomMargins, atTop, gapOf, freeOf, shareOf, placeX, placeY, placeOf, pastThrough, pastBox, stepped, lineOf, edgesOf, pastAside, pastHidden, Counts};
-ghost use Rattle.steps.specs.Height.{extraOf, stepK, stepL, heldOpen, ownEnd, stepM, stepN, passedOut, outputOf, finished, leafOutput};
 use geometry::Line;
 use geometry::Point;
-use geometry::Size;
 use length::AvailableSpace;
 use length::LengthRect;
 use margin::CollapsibleMarginSet;
 use margin::Order;
 use steps::BlockItem;
 use steps::Cursor;
-use steps::Finished;
 use steps::Frame;
 use steps::LayoutInput;
 use steps::LayoutOutput;
-use style::Measure;
 use style::Position;
 use style::Style;
 use util::OptionF32;
@@ -149,7 +145,7 @@ fn asked_height(i: BlockItem) -> OptionF32
 fn child_input(f: Frame, s: Style, i: BlockItem) -> LayoutInput
     ensures { λ r. ⌜ r ≡ childInput f s i ⌝ }
 {
-    let plain = sizing::is_plain_block(s);
+    let plain = frames::is_plain_block(s);
     let width = asked_width(f, i);
     let known = OptionSize {
         width: OptionF32::Some(width),
@@ -188,7 +184,7 @@ fn bottom_margins(i: BlockItem, o: LayoutOutput) -> CollapsibleMarginSet
     b.collapse_with_margin(m.bottom)
 }
 
-fn at_top(f: Frame, c: Cursor) -> bool
+pub fn at_top(f: Frame, c: Cursor) -> bool
     ensures { λ r. ⌜ r ≡ atTop f c ⌝ }
 {
     if c.first { f.start } else { false }
@@ -364,145 +360,5 @@ pub fn past_hidden(c: Cursor) -> Cursor
         through: c.through,
         shown,
         count: c.count + 1,
-    }
-}
-
-fn ends_or_tops(f: Frame, c: Cursor) -> bool
-    ensures { λ r. ⌜ r ≡ (f .end || atTop f c) ⌝ }
-{
-    if f.end { true } else { at_top(f, c) }
-}
-
-fn extra_of(f: Frame, c: Cursor) -> f32
-    ensures { λ r. ⌜ r ≡ extraOf f c ⌝ }
-{
-    let strut = c.strut;
-    util::pick(ends_or_tops(f, c), 0.0, strut.resolve())
-}
-
-// Step K.
-fn content_height(f: Frame, c: Cursor) -> f32
-    ensures { λ r. ⌜ r ≡ stepK f c ⌝ }
-{
-    let inset = f.inset;
-    let extra = extra_of(f, c);
-    util::f32_max(0.0, (c.y + extra) + inset.bottom)
-}
-
-// Step L.
-fn outer_height(f: Frame, content: f32) -> f32
-    ensures { λ r. ⌜ r ≡ stepL f content ⌝ }
-{
-    let height = f.height;
-    let lo = f.min;
-    let hi = f.max;
-    util::f32_max(
-        height.unwrap_or(util::maybe_clamp(content, lo, hi)),
-        f.floor,
-    )
-}
-
-fn held_open(lo: OptionF32, height: f32) -> bool
-    ensures { λ r. ⌜ r ≡ heldOpen lo height ⌝ }
-{
-    match lo {
-        OptionF32::None => false,
-        OptionF32::Some(m) => { if 0.0 < m { height <= m } else { false } }
-    }
-}
-
-fn own_end(f: Frame, height: f32) -> bool
-    ensures { λ r. ⌜ r ≡ ownEnd f height ⌝ }
-{
-    let lo = f.min;
-    if f.end { !held_open(lo, height) } else { false }
-}
-
-// Step M.
-fn shift_of(s: Style, f: Frame, height: f32, content: f32) -> OptionF32
-    ensures { λ r. ⌜ r ≡ stepM s f height content ⌝ }
-{
-    let align = s.align;
-    let inset = f.inset;
-    let down = inset.vertical_axis_sum();
-    alignment::compute_alignment_offset(align, (height - down) - (content - down))
-}
-
-// Step N.
-fn can_be_collapsed_through(f: Frame, c: Cursor, height: f32) -> bool
-    ensures { λ r. ⌜ r ≡ stepN f c height ⌝ }
-{
-    if f.hollow {
-        if height == 0.0 {
-            return c.through;
-        }
-    }
-    false
-}
-
-fn passed_out(passed: bool, set: CollapsibleMarginSet, own: f32) -> CollapsibleMarginSet
-    ensures { λ r. ⌜ r ≡ passedOut passed set own ⌝ }
-{
-    if passed {
-        set
-    } else {
-        CollapsibleMarginSet::from_margin(own)
-    }
-}
-
-fn output_of(s: Style, q: LayoutInput, f: Frame, c: Cursor, height: f32) -> LayoutOutput
-    ensures { λ r. ⌜ r ≡ outputOf s q f c height ⌝ }
-{
-    let margin = s.margin;
-    let mt = margin.top;
-    let mb = margin.bottom;
-    let parent = q.parent;
-    let top = c.top;
-    let strut = c.strut;
-    let size = Size {
-        width: f.width,
-        height,
-    };
-    LayoutOutput {
-        size,
-        top: passed_out(f.start, top, length::resolve_or_zero(mt, parent)),
-        bottom: passed_out(
-            own_end(f, height),
-            strut,
-            length::resolve_or_zero(mb, parent),
-        ),
-        through: can_be_collapsed_through(f, c, height),
-    }
-}
-
-// Steps K to N.
-pub fn finish(s: Style, q: LayoutInput, f: Frame, c: Cursor) -> Finished
-    ensures { λ r. ⌜ r ≡ finished s q f c ⌝ }
-{
-    let content = content_height(f, c);
-    let height = outer_height(f, content);
-    Finished {
-        output: output_of(s, q, f, c, height),
-        shift: shift_of(s, f, height, content),
-    }
-}
-
-// A leaf's answer.
-pub fn leaf_output(m: Measure, q: LayoutInput) -> LayoutOutput
-    ensures { λ r. ⌜ r ≡ leafOutput m q ⌝ }
-{
-    let known = q.known;
-    let kw = known.width;
-    let kh = known.height;
-    let available = q.available;
-    let size = Size {
-        width: kw.unwrap_or(sizing::leaf_width(m, available)),
-        height: kh.unwrap_or(m.height),
-    };
-    LayoutOutput {
-        size,
-        top: CollapsibleMarginSet::zero(),
-        bottom: CollapsibleMarginSet::zero(),
-        through: false,
     }
 }

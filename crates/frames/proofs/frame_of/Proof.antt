@@ -1,0 +1,30 @@
+use Rattle.steps.specs.Edges.{frameOf}
+use borrow.Author.Needs.{needs}
+use Rattle.frames.proofs.frame_of.Statement.{statement}
+use Rattle.frames.proofs.frame_of.Tie as tie
+
+sizing-of-requires : tie.Need-sizing-of-requires
+sizing-of-requires c κs = search needs
+
+known-dimensions-requires : tie.Need-known-dimensions-requires
+known-dimensions-requires c κs = search needs
+
+unwrap-or-requires : tie.Need-unwrap-or-requires
+unwrap-or-requires c κs = search needs
+
+frame-by-requires : tie.Need-frame-by-requires
+frame-by-requires c κs = search needs
+
+returns : tie.Need-returns
+unfolding frameOf
+returns c = rw (c .frame-by .ensures, c .before .unwrap-or .ensures, c .before .before .known-dimensions .ensures, c .before .before .before .sizing-of .ensures)
+
+pub frame-of-spec : {M : Type 1} → statement M
+frame-of-spec =
+    tie.close
+    (tie.spec
+    sizing-of-requires
+    known-dimensions-requires
+    unwrap-or-requires
+    frame-by-requires
+    returns)

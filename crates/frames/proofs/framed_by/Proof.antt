@@ -1,0 +1,46 @@
+use Rattle.steps.specs.Edges.{framed}
+use borrow.Author.Needs.{needs}
+use Rattle.frames.proofs.framed_by.Statement.{statement}
+use Rattle.frames.proofs.framed_by.Tie as tie
+
+add-requires : tie.Need-add-requires
+add-requires c κs = search needs
+
+content-box-inset-requires : tie.Need-content-box-inset-requires
+content-box-inset-requires c κs = search needs
+
+vertical-axis-sum-requires : tie.Need-vertical-axis-sum-requires
+vertical-axis-sum-requires c κs = search needs
+
+content-box-inset-requires-2 : tie.Need-content-box-inset-requires-2
+content-box-inset-requires-2 c κs = search needs
+
+content-basis-requires : tie.Need-content-basis-requires
+content-basis-requires c κs = search needs
+
+edge-adjoins-requires : tie.Need-edge-adjoins-requires
+edge-adjoins-requires c κs = search needs
+
+own-end-requires : tie.Need-own-end-requires
+own-end-requires c κs = search needs
+
+is-hollow-requires : tie.Need-is-hollow-requires
+is-hollow-requires c κs = search needs
+
+returns : tie.Need-returns
+unfolding framed
+returns c = rw (c .is-hollow .ensures, c .before .own-end .ensures, c .before .before .edge-adjoins .ensures, c .before .before .before .content-basis .ensures, c .before .before .before .before .content-box-inset2 .ensures, c .before .before .before .before .before .vertical-axis-sum .ensures, c .before .before .before .before .before .before .content-box-inset .ensures, c .before .before .before .before .before .before .before .add .ensures)
+
+pub framed-by-spec : {M : Type 1} → statement M
+framed-by-spec =
+    tie.close
+    (tie.spec
+    add-requires
+    content-box-inset-requires
+    vertical-axis-sum-requires
+    content-box-inset-requires-2
+    content-basis-requires
+    edge-adjoins-requires
+    own-end-requires
+    is-hollow-requires
+    returns)

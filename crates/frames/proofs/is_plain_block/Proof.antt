@@ -1,0 +1,40 @@
+use Rattle.steps.specs.Edges.{plainBlock}
+use borrow.Author.Needs.{needs}
+use Rattle.frames.proofs.is_plain_block.Statement.{statement}
+use Rattle.frames.proofs.is_plain_block.Tie as tie
+
+flow-of-requires : tie.Need-flow-of-requires
+flow-of-requires c κs = search needs
+
+is-in-requires : tie.Need-is-in-requires
+is-in-requires c κs = search needs
+
+is-leaf-requires : tie.Need-is-leaf-requires
+is-leaf-requires c κs = search needs
+
+returns : tie.Need-returns
+unfolding plainBlock
+returns c = rw (← c .before .before .before .before .flow-of .ensures, ← c .before .before .before .is-in .ensures, c .before .before .if1 .taken, ← c .before .is-leaf .ensures, c .if2 .taken)
+
+establishes-new-bfc-requires : tie.Need-establishes-new-bfc-requires
+establishes-new-bfc-requires c κs = search needs
+
+returns-2 : tie.Need-returns-2
+unfolding plainBlock
+returns-2 c = rw (← c .before .before .before .before .before .flow-of .ensures, ← c .before .before .before .before .is-in .ensures, c .before .before .before .if1 .taken, ← c .before .before .is-leaf .ensures, c .before .if2 .left, c .establishes-new-bfc .ensures)
+
+returns-3 : tie.Need-returns-3
+unfolding plainBlock
+returns-3 c = rw (← c .before .before .flow-of .ensures, ← c .before .is-in .ensures, c .if1 .left)
+
+pub is-plain-block-spec : {M : Type 1} → statement M
+is-plain-block-spec =
+    tie.close
+    (tie.spec
+    flow-of-requires
+    is-in-requires
+    is-leaf-requires
+    returns
+    establishes-new-bfc-requires
+    returns-2
+    returns-3)

@@ -1,0 +1,194 @@
+// Steps H and I: a container's frame (the crate's compute_inner up to its items).
+ghost use mathlib.Core.Path.{_≡_};
+ghost use Rattle.steps.specs.Edges.{clips, isNormal, newContext, isIn, plainBlock, adjoins, openBox, hollowBox, ownEndOf, framed, frameBy, frameOf};
+use geometry::Rect;
+use steps::Flow;
+use steps::Frame;
+use steps::LayoutInput;
+use steps::Sizing;
+use style::AlignContent;
+use style::Overflow;
+use style::Style;
+use util::OptionF32;
+use util::OptionSize;
+
+fn is_clipping(o: Overflow) -> bool
+    ensures { λ r. ⌜ r ≡ clips o ⌝ }
+{
+    match o {
+        Overflow::Visible => false,
+        Overflow::Clip => false,
+        Overflow::Hidden => true,
+        Overflow::Scroll => true,
+    }
+}
+
+fn is_align_normal(a: AlignContent) -> bool
+    ensures { λ r. ⌜ r ≡ isNormal a ⌝ }
+{
+    match a {
+        AlignContent::Normal => true,
+        AlignContent::Start => false,
+        AlignContent::Center => false,
+        AlignContent::End => false,
+    }
+}
+
+// Step I: a new context.
+pub fn establishes_new_bfc(s: Style) -> bool
+    ensures { λ r. ⌜ r ≡ newContext s ⌝ }
+{
+    let o = s.overflow;
+    let ox = o.x;
+    let oy = o.y;
+    let align = s.align;
+    if is_clipping(ox) {
+        return true;
+    }
+    if is_clipping(oy) {
+        return true;
+    }
+    if is_align_normal(align) {
+        return s.contained;
+    }
+    true
+}
+
+fn is_in(f: Flow) -> bool
+    ensures { λ r. ⌜ r ≡ isIn f ⌝ }
+{
+    match f {
+        Flow::Gone => false,
+        Flow::Out => false,
+        Flow::In => true,
+    }
+}
+
+// Step I: an in-flow block without new context.
+pub fn is_plain_block(s: Style) -> bool
+    ensures { λ r. ⌜ r ≡ plainBlock s ⌝ }
+{
+    let kind = s.kind;
+    if is_in(widths::flow_of(s)) {
+        if widths::is_leaf(kind) {
+            return false;
+        }
+        return !establishes_new_bfc(s);
+    }
+    false
+}
+
+fn edge_adjoins(s: Style, flag: bool, padding: f32, border: f32) -> bool
+    ensures { λ r. ⌜ r ≡ adjoins s flag padding border ⌝ }
+{
+    if flag {
+        if is_plain_block(s) {
+            if padding == 0.0 {
+                return border == 0.0;
+            }
+        }
+    }
+    false
+}
+
+fn is_open_box(padding: Rect, border: Rect) -> bool
+    ensures { λ r. ⌜ r ≡ openBox padding border ⌝ }
+{
+    if 0.0 < padding.top {
+        return false;
+    }
+    if 0.0 < padding.bottom {
+        return false;
+    }
+    if 0.0 < border.top {
+        return false;
+    }
+    !(0.0 < border.bottom)
+}
+
+// May the box be through, but for its height and its children?
+fn is_hollow(s: Style, nested: bool, padding: Rect, border: Rect) -> bool
+    ensures { λ r. ⌜ r ≡ hollowBox s nested padding border ⌝ }
+{
+    if nested {
+        if is_plain_block(s) {
+            return is_open_box(padding, border);
+        }
+    }
+    false
+}
+
+// Own end: the end adjoins and step A gave no height.
+fn own_end(s: Style, flag: bool, padding: f32, border: f32, height: OptionF32) -> bool
+    ensures { λ r. ⌜ r ≡ ownEndOf s flag padding border height ⌝ }
+{
+    if edge_adjoins(s, flag, padding, border) {
+        return !height.is_some();
+    }
+    false
+}
+
+fn framed_by(
+    s: Style,
+    q: LayoutInput,
+    z: Sizing,
+    known: OptionSize,
+    width: f32,
+    padding: Rect,
+    border: Rect,
+) -> Frame
+    ensures { λ r. ⌜ r ≡ framed s q z known width padding border ⌝ }
+{
+    let size = z.size;
+    let min = z.min;
+    let max = z.max;
+    let zb = z.both;
+    let height = known.height;
+    let sh = size.height;
+    let lo = min.height;
+    let hi = max.height;
+    let both = padding.add(border);
+    Frame {
+        width,
+        height,
+        inset: sizing::content_box_inset(s, both),
+        floor: both.vertical_axis_sum(),
+        min: lo,
+        max: hi,
+        basis: sizing::content_basis(known, sizing::content_box_inset(s, zb)),
+        start: edge_adjoins(s, q.start, padding.top, border.top),
+        end: own_end(s, q.end, padding.bottom, border.bottom, sh),
+        hollow: is_hollow(s, q.nested, padding, border),
+        rtl: s.rtl,
+    }
+}
+
+fn frame_by(s: Style, q: LayoutInput, z: Sizing, known: OptionSize, width: f32) -> Frame
+    ensures { λ r. ⌜ r ≡ frameBy s q z known width ⌝ }
+{
+    let sp = s.padding;
+    let sb = s.border;
+    let parent = q.parent;
+    let basis = OptionF32::Some(parent.unwrap_or(width));
+    framed_by(
+        s,
+        q,
+        z,
+        known,
+        width,
+        sp.resolve_sides(basis),
+        sb.resolve_sides(basis),
+    )
+}
+
+// Steps A, B, D, E, H and I.
+pub fn frame_of(s: Style, q: LayoutInput, found: f32) -> Frame
+    ensures { λ r. ⌜ r ≡ frameOf s q found ⌝ }
+{
+    let parent = q.parent;
+    let asked = q.known;
+    let z = sizing::sizing_of(s, parent);
+    let known = sizing::known_dimensions(s, z, asked);
+    let w = known.width;
+    frame_by(s, q, z, known, w.unwrap_or(found))
+}

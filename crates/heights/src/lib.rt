@@ -1,0 +1,155 @@
+// Steps K to N: a container's height and its answer (the end of the crate's compute_inner); a leaf's answer.
+ghost use mathlib.Core.Path.{_≡_};
+ghost use mathlib.Core.Bool.{_||_};
+ghost use Rattle.steps.specs.Stack.{atTop};
+ghost use Rattle.steps.specs.Height.{extraOf, stepK, stepL, heldOpen, ownEnd, stepM, stepN, passedOut, outputOf, finished, leafOutput};
+use geometry::Size;
+use margin::CollapsibleMarginSet;
+use steps::Cursor;
+use steps::Finished;
+use steps::Frame;
+use steps::LayoutInput;
+use steps::LayoutOutput;
+use style::Measure;
+use style::Style;
+use util::OptionF32;
+
+fn ends_or_tops(f: Frame, c: Cursor) -> bool
+    ensures { λ r. ⌜ r ≡ (f .end || atTop f c) ⌝ }
+{
+    if f.end { true } else { stacking::at_top(f, c) }
+}
+
+fn extra_of(f: Frame, c: Cursor) -> f32
+    ensures { λ r. ⌜ r ≡ extraOf f c ⌝ }
+{
+    let strut = c.strut;
+    util::pick(ends_or_tops(f, c), 0.0, strut.resolve())
+}
+
+// Step K.
+fn content_height(f: Frame, c: Cursor) -> f32
+    ensures { λ r. ⌜ r ≡ stepK f c ⌝ }
+{
+    let inset = f.inset;
+    let extra = extra_of(f, c);
+    util::f32_max(0.0, (c.y + extra) + inset.bottom)
+}
+
+// Step L.
+fn outer_height(f: Frame, content: f32) -> f32
+    ensures { λ r. ⌜ r ≡ stepL f content ⌝ }
+{
+    let height = f.height;
+    let lo = f.min;
+    let hi = f.max;
+    util::f32_max(
+        height.unwrap_or(util::maybe_clamp(content, lo, hi)),
+        f.floor,
+    )
+}
+
+fn held_open(lo: OptionF32, height: f32) -> bool
+    ensures { λ r. ⌜ r ≡ heldOpen lo height ⌝ }
+{
+    match lo {
+        OptionF32::None => false,
+        OptionF32::Some(m) => { if 0.0 < m { height <= m } else { false } }
+    }
+}
+
+fn own_end(f: Frame, height: f32) -> bool
+    ensures { λ r. ⌜ r ≡ ownEnd f height ⌝ }
+{
+    let lo = f.min;
+    if f.end { !held_open(lo, height) } else { false }
+}
+
+// Step M.
+fn shift_of(s: Style, f: Frame, height: f32, content: f32) -> OptionF32
+    ensures { λ r. ⌜ r ≡ stepM s f height content ⌝ }
+{
+    let align = s.align;
+    let inset = f.inset;
+    let down = inset.vertical_axis_sum();
+    alignment::compute_alignment_offset(align, (height - down) - (content - down))
+}
+
+// Step N.
+fn can_be_collapsed_through(f: Frame, c: Cursor, height: f32) -> bool
+    ensures { λ r. ⌜ r ≡ stepN f c height ⌝ }
+{
+    if f.hollow {
+        if height == 0.0 {
+            return c.through;
+        }
+    }
+    false
+}
+
+fn passed_out(passed: bool, set: CollapsibleMarginSet, own: f32) -> CollapsibleMarginSet
+    ensures { λ r. ⌜ r ≡ passedOut passed set own ⌝ }
+{
+    if passed {
+        set
+    } else {
+        CollapsibleMarginSet::from_margin(own)
+    }
+}
+
+fn output_of(s: Style, q: LayoutInput, f: Frame, c: Cursor, height: f32) -> LayoutOutput
+    ensures { λ r. ⌜ r ≡ outputOf s q f c height ⌝ }
+{
+    let margin = s.margin;
+    let mt = margin.top;
+    let mb = margin.bottom;
+    let parent = q.parent;
+    let top = c.top;
+    let strut = c.strut;
+    let size = Size {
+        width: f.width,
+        height,
+    };
+    LayoutOutput {
+        size,
+        top: passed_out(f.start, top, length::resolve_or_zero(mt, parent)),
+        bottom: passed_out(
+            own_end(f, height),
+            strut,
+            length::resolve_or_zero(mb, parent),
+        ),
+        through: can_be_collapsed_through(f, c, height),
+    }
+}
+
+// Steps K to N.
+pub fn finish(s: Style, q: LayoutInput, f: Frame, c: Cursor) -> Finished
+    ensures { λ r. ⌜ r ≡ finished s q f c ⌝ }
+{
+    let content = content_height(f, c);
+    let height = outer_height(f, content);
+    Finished {
+        output: output_of(s, q, f, c, height),
+        shift: shift_of(s, f, height, content),
+    }
+}
+
+// A leaf's answer.
+pub fn leaf_output(m: Measure, q: LayoutInput) -> LayoutOutput
+    ensures { λ r. ⌜ r ≡ leafOutput m q ⌝ }
+{
+    let known = q.known;
+    let kw = known.width;
+    let kh = known.height;
+    let available = q.available;
+    let size = Size {
+        width: kw.unwrap_or(widths::leaf_width(m, available)),
+        height: kh.unwrap_or(m.height),
+    };
+    LayoutOutput {
+        size,
+        top: CollapsibleMarginSet::zero(),
+        bottom: CollapsibleMarginSet::zero(),
+        through: false,
+    }
+}

@@ -1,0 +1,28 @@
+use Rattle.steps.specs.Width.{isLeaf}
+use borrow.Author.Needs.{needs}
+use Rattle.widths.proofs.is_leaf.Statement.{statement}
+use Rattle.widths.proofs.is_leaf.Tie as tie
+
+enum-told : tie.Need-enum-told
+enum-told c = search needs
+
+enum-told-2 : tie.Need-enum-told-2
+enum-told-2 c = search needs
+
+enum-told-3 : tie.Need-enum-told-3
+enum-told-3 c = search needs
+
+returns : tie.Need-returns
+unfolding isLeaf
+returns c = rw (c .enum-told .given .1)
+
+returns-2 : tie.Need-returns-2
+unfolding isLeaf
+returns-2 c = rw (c .enum-told2 .given .1)
+
+returns-3 : tie.Need-returns-3
+unfolding isLeaf
+returns-3 c = rw (c .enum-told3 .given .1)
+
+pub is-leaf-spec : {M : Type 1} → statement M
+is-leaf-spec = tie.close (tie.spec enum-told enum-told-2 enum-told-3 returns returns-2 returns-3)

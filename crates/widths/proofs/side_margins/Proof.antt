@@ -1,0 +1,18 @@
+use Rattle.steps.specs.Width.{sideMargins}
+use borrow.Author.Needs.{needs}
+use Rattle.widths.proofs.side_margins.Statement.{statement}
+use Rattle.widths.proofs.side_margins.Tie as tie
+
+resolve-or-zero-requires : tie.Need-resolve-or-zero-requires
+resolve-or-zero-requires c κs = search needs
+
+resolve-or-zero-requires-2 : tie.Need-resolve-or-zero-requires-2
+resolve-or-zero-requires-2 c κs = search needs
+
+returns : tie.Need-returns
+unfolding sideMargins
+returns c = rw (c .resolve-or-zero2 .ensures, c .before .resolve-or-zero .ensures)
+
+pub side-margins-spec : {M : Type 1} → statement M
+side-margins-spec =
+    tie.close (tie.spec resolve-or-zero-requires resolve-or-zero-requires-2 returns)

@@ -1,0 +1,22 @@
+use Rattle.steps.specs.Probe.{widthFrom}
+use borrow.Author.Needs.{needs}
+use Rattle.widths.proofs.width_from.Statement.{statement}
+use Rattle.widths.proofs.width_from.Tie as tie
+
+sizing-of-requires : tie.Need-sizing-of-requires
+sizing-of-requires c κs = search needs
+
+content-box-inset-requires : tie.Need-content-box-inset-requires
+content-box-inset-requires c κs = search needs
+
+content-width-requires : tie.Need-content-width-requires
+content-width-requires c κs = search needs
+
+returns : tie.Need-returns
+unfolding widthFrom
+returns c = rw (c .content-width .ensures, c .before .content-box-inset .ensures, c .before .before .before .sizing-of .ensures)
+
+pub width-from-spec : {M : Type 1} → statement M
+width-from-spec =
+    tie.close
+    (tie.spec sizing-of-requires content-box-inset-requires content-width-requires returns)
