@@ -1,0 +1,5 @@
+pub mod Fill
+pub mod Edits
+pub mod Bits
+pub mod Listed
+pub mod ClearLoop
