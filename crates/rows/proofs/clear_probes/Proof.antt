@@ -82,11 +82,11 @@ loop-less c = let w = c .before .before .before .before .before .before .pre in 
 
 loop-again : tie.Need-loop-again Inv-loop μ-loop
 loop-again c = (
-      simp length-set (c .before .before .before .loop .inv .0),
-      simp length-set (c .before .before .before .loop .inv .1),
-      let w = c .before .before .before .before .before .before .pre in omega (arith, c .before .before .before .loop .inv .1),
-      λ l er em. turn _ _ l _ _ (c .before .before .before .loop .inv .3 l er em) (c .before .before .loop-test .taken) (c .clear-bits .ensures),
-    )
+  simp length-set (c .before .before .before .loop .inv .0),
+  simp length-set (c .before .before .before .loop .inv .1),
+  let w = c .before .before .before .before .before .before .pre in omega (arith, c .before .before .before .loop .inv .1),
+  λ l er em. turn _ _ l _ _ (c .before .before .before .loop .inv .3 l er em) (c .before .before .loop-test .taken) (c .clear-bits .ensures),
+)
 
 same-length : tie.Need-same-length Inv-loop μ-loop
 same-length c = c .before .loop .inv .0

@@ -39,9 +39,10 @@ same-length-2 c = search needs
 
 returns : tie.Need-returns
 returns c =
-    let s = c .before .before .before .before .before .before .before .before .before .before in
-    (rw (c .before .before .before .before .before .before .clear .ensures) (aside-rows (length (s .args .rows .now)) (s .args .edges .start) (s .args .line) (s .args .edges .end) (s .args .order .0) (s .pre .rows-some)),
-    rw (c .before .before .clear-marks .ensures) (aside-marks (length (s .args .marks .now)) (s .args .edges .start) (s .args .line) (s .args .edges .end) (s .args .order .0) (s .pre .marks-some)))
+    let s = c .before .before .before .before .before .before .before .before .before .before in (
+      rw (c .before .before .before .before .before .before .clear .ensures) (aside-rows (length (s .args .rows .now)) (s .args .edges .start) (s .args .line) (s .args .edges .end) (s .args .order .0) (s .pre .rows-some)),
+      rw (c .before .before .clear-marks .ensures) (aside-marks (length (s .args .marks .now)) (s .args .edges .start) (s .args .line) (s .args .edges .end) (s .args .order .0) (s .pre .marks-some)),
+    )
 
 pub put-aside-spec : {M : Type 1} → statement M
 put-aside-spec =

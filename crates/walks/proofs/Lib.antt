@@ -1,0 +1,4 @@
+pub mod Parts
+pub mod LowerLoop
+pub mod FixClauses
+pub mod KeepLoop

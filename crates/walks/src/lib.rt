@@ -1,0 +1,89 @@
+// Walks over the rows of a run: step M, and what stands below a kept node.
+ghost use mathlib.Core.Path.{_≡_};
+ghost use mathlib.Core.Bool.{_||_};
+ghost use Prim.Native.Nat.{_/_, _%_};
+ghost use Rattle.style.specs.Codes.{flagAt, kindOf, positionOf, codeAt};
+ghost use Rattle.steps.specs.Width.{flowBy};
+ghost use Rattle.steps.specs.Kept.{laidBits};
+ghost use Rattle.walks.specs.Tables.{IsRows, LoweredRows, IsBelow, KeptBelow, loweredY};
+use geometry::Line;
+use margin::Order;
+use steps::Flow;
+
+fn moves(bits: u32) -> bool
+    ensures { λ r. ⌜ r ≡ (flagAt bits 0 || flagAt bits 2) ⌝ }
+{
+    if style::flag(bits, 0) {
+        return true;
+    }
+    style::flag(bits, 2)
+}
+
+fn lowered_by(y: f32, bits: u32, shift: f32) -> f32
+    ensures { λ r. ⌜ r ≡ loweredY y bits shift ⌝ }
+{
+    util::pick(moves(bits), y + shift, y)
+}
+
+// Step M: moves the place y or the line of each tree of a forest.
+pub fn lower(words: &[u32], rows: &mut [f32], marks: &[u32], shift: f32)
+    requires { ⌜ IsRows (now words) (now rows) (now marks) ⌝ }
+    ensures { λ _. ⌜ LoweredRows (now (words .entry)) (now (rows .entry)) (now (marks .entry)) shift (now (rows .exit)) ⌝ }
+{
+    let mut a = 0usize;
+    while 4 * a < words.len() {
+        let y = 16 * a + 1;
+        let m = 2 * a + 1;
+        rows[y] = lowered_by(rows[y], marks[m], shift);
+        a += style::word(words, a, 0) as usize;
+    }
+}
+
+fn flow_in(w: u32) -> Flow
+    ensures { λ r. ⌜ r ≡ flowBy (kindOf (codeAt w 0)) (positionOf (codeAt w 2)) ⌝ }
+{
+    widths::flow_by(style::kind_of(w), style::position_of(w))
+}
+
+fn laid_bits(b: u32) -> u32
+    ensures { λ r. ⌜ r ≡ laidBits b (b / 16 % 16) ⌝ }
+{
+    1 + 2 * (b / 2 % 2) + 8 * (b / 8 % 2) + 16 * (b / 16 % 16) + 256 * (b / 256)
+}
+
+// Below a kept node: kind and position fix bits 0 and 2 and what is zero; the rest stays.
+pub fn keep_below(words: &[u32], rows: &mut [f32], marks: &mut [u32])
+    requires { ⌜ IsBelow (now words) (now rows) (now marks) ⌝ }
+    ensures { λ _. ⌜ KeptBelow (now (words .entry)) (now (rows .entry)) (now (marks .entry)) (now (rows .exit)) (now (marks .exit)) ⌝ }
+{
+    let mut i = 0usize;
+    while 4 * i < words.len() {
+        let e = i + style::word(words, i, 0) as usize;
+        let i16 = 16 * i;
+        let e16 = 16 * e;
+        let i2 = 2 * i;
+        let e2 = 2 * e;
+        let flow = flow_in(style::word(words, i, 1));
+        match flow {
+            Flow::Gone => {
+                let order = marks[i2];
+                rows::put_hidden(&mut rows[i16..e16], &mut marks[i2..e2], order);
+                i = e;
+            }
+            Flow::Out => {
+                let edges = Line {
+                    start: rows[i16],
+                    end: rows[i16 + 2],
+                };
+                let line = rows[i16 + 1];
+                let order = Order(marks[i2]);
+                rows::put_aside(&mut rows[i16..e16], &mut marks[i2..e2], edges, line, order);
+                i = e;
+            }
+            Flow::In => {
+                marks[i2 + 1] = laid_bits(marks[i2 + 1]);
+                i += 1;
+            }
+        }
+    }
+}
