@@ -1,0 +1,11 @@
+pub mod ScanLaws
+pub mod Counting
+pub mod Fronts
+pub mod Parts
+pub mod CheckTurn
+pub mod CheckRoot
+pub mod GoodPage
+pub mod NeededWalk
+pub mod Passing
+pub mod Exactly
+pub mod TreePasses

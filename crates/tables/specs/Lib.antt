@@ -1,0 +1,4 @@
+pub mod TreeCheck
+pub mod Walk
+pub mod Refusals
+pub mod Leaves

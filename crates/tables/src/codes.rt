@@ -1,0 +1,125 @@
+// 3: the codes and units of a node.
+ghost use mathlib.Core.Path.{_≡_};
+ghost use mathlib.Core.Bool.{_&&_};
+ghost use Prim.Native.Nat.{_≤_};
+ghost use lib.Dec.{leb, ltb};
+ghost use Rattle.style.specs.Codes.{unitOf};
+ghost use Rattle.steps.specs.Scan.{lowest, some};
+ghost use Rattle.steps.specs.Page.{nodesIn};
+ghost use Rattle.steps.specs.Noes.{noAuto, noFraction, badUnit, badCodes};
+use margin::NodeId;
+use steps::Found;
+use style::clear_from;
+use style::code;
+use style::unit;
+use style::word;
+
+// From lo on and below hi.
+pub(crate) fn spans(lo: u32, hi: u32, f: u32) -> bool
+    ensures { λ r. ⌜ r ≡ leb lo f && ltb f hi ⌝ }
+{
+    if lo <= f { f < hi } else { false }
+}
+
+// 3: fields that take no auto.
+fn no_auto(f: u32) -> bool
+    ensures { λ r. ⌜ r ≡ noAuto f ⌝ }
+{
+    spans(10, 18, f)
+}
+
+// 3: fields that take no fraction.
+fn no_fraction(f: u32) -> bool
+    ensures { λ r. ⌜ r ≡ noFraction f ⌝ }
+{
+    if f == 1 {
+        return true;
+    }
+    if f == 3 {
+        return true;
+    }
+    if f == 5 {
+        return true;
+    }
+    if f == 18 {
+        return true;
+    }
+    f == 20
+}
+
+// 3: unit 3 is unknown.
+fn bad_unit(f: u32, unit: u32) -> bool
+    ensures { λ r. ⌜ r ≡ badUnit f unit ⌝ }
+{
+    if unit == 3 {
+        return true;
+    }
+    if unit == 0 {
+        return no_auto(f);
+    }
+    if unit == 2 {
+        return no_fraction(f);
+    }
+    false
+}
+
+// 3: one of a node's 22 units, of its two unit words.
+fn some_bad_unit(u: u32, v: u32) -> bool
+    ensures { λ r. ⌜ r ≡ some (λ f. badUnit f (unitOf u v f)) 22 ⌝ }
+{
+    let mut f = 0;
+    while f < 22 {
+        if bad_unit(f, unit(u, v, f)) {
+            return true;
+        }
+        f += 1;
+    }
+    false
+}
+
+// 3, of node i.
+fn bad_codes(words: &[u32], i: usize) -> bool
+    ensures { λ r. ⌜ r ≡ badCodes (now (words .entry)) i ⌝ }
+{
+    let style = word(words, i, 1);
+    let u = word(words, i, 2);
+    let v = word(words, i, 3);
+    if code(style, 0) == 3 {
+        return true;
+    }
+    if code(style, 2) == 3 {
+        return true;
+    }
+    if !clear_from(style, 13) {
+        return true;
+    }
+    if !clear_from(u, 28) {
+        return true;
+    }
+    if !clear_from(v, 16) {
+        return true;
+    }
+    if some_bad_unit(u, v) {
+        return true;
+    }
+    if i == 0 {
+        return code(style, 0) != 0;
+    }
+    false
+}
+
+// 3: the lowest node at fault.
+pub(crate) fn first_bad_codes(words: &[u32]) -> Found
+    requires { ⌜ nodesIn (now words) ≤ 1024 ⌝ }
+    ensures { λ r. ⌜ r ≡ lowest (badCodes (now (words .entry))) (nodesIn (now (words .entry))) ⌝ }
+{
+    let n = words.len() / 4;
+    let mut i = 0;
+    while i < n {
+        if bad_codes(words, i) {
+            return Found::At(NodeId(i as u32));
+        }
+        i += 1;
+    }
+    Found::Nowhere
+}

@@ -1,0 +1,45 @@
+// 6: the edit list.
+ghost use mathlib.Core.Path.{_≡_};
+ghost use Prim.Native.Nat.{min};
+ghost use lib.ListN.{length};
+ghost use Rattle.steps.specs.Scan.{lowest};
+ghost use Rattle.steps.specs.Noes.{badEdit, no6};
+use margin::NodeId;
+use steps::Answer;
+use steps::Found;
+use steps::Tested;
+
+// 6: how many of the edits are looked at.
+fn looked_at(n: usize) -> usize
+    ensures { λ r. ⌜ r ≡ min 64 n ⌝ }
+{
+    if n < 64 { n } else { 64 }
+}
+
+// 6: the first of them that names no node.
+fn first_bad_edit(edits: &[u32], n: usize) -> Found
+    ensures { λ r. ⌜ r ≡ lowest (badEdit (now (edits .entry)) n) (min 64 (length (now (edits .entry)))) ⌝ }
+{
+    let most = looked_at(edits.len());
+    let mut k = 0;
+    while k < most {
+        if n <= edits[k] as usize {
+            return Found::At(NodeId(k as u32));
+        }
+        k += 1;
+    }
+    Found::Nowhere
+}
+
+// 6.
+pub(crate) fn edits_tested(edits: &[u32], n: usize) -> Tested
+    ensures { λ r. ⌜ r ≡ no6 (now (edits .entry)) n ⌝ }
+{
+    if let Found::At(k) = first_bad_edit(edits, n) {
+        return Tested::Refuse(Answer::Edits(k.0));
+    }
+    if 64 < edits.len() {
+        return Tested::Refuse(Answer::Edits(64));
+    }
+    Tested::Pass
+}

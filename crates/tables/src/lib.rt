@@ -1,0 +1,210 @@
+// The tests before any write: whatever words and numbers arrive, the first refusal that is due, and its place.
+mod codes;
+mod edits;
+mod needed;
+mod numbers;
+mod shape;
+
+ghost use mathlib.Core.Path.{_≡_};
+ghost use Prim.Native.Nat.{_≤_};
+ghost use Rattle.steps.specs.Scan.{lowest};
+ghost use Rattle.steps.specs.Page.{nodesIn};
+ghost use Rattle.tables.specs.TreeCheck.{GoodTable};
+ghost use Rattle.steps.specs.Noes.{badTables, badRows, badTree, no2, no3, no4, no7, pageTested, layoutTested, relayoutTested, sizeTested};
+ghost use Rattle.tables.specs.Walk.{RoomTested};
+use crate::codes::first_bad_codes;
+use crate::edits::edits_tested;
+use crate::needed::count_needed;
+use crate::needed::records_in;
+use crate::numbers::bad_question;
+use crate::numbers::first_bad_numbers;
+use crate::shape::below;
+use crate::shape::long_leaf;
+use margin::NodeId;
+use steps::Answer;
+use steps::Found;
+use steps::LayoutInput;
+use steps::Tested;
+use style::flag;
+use style::word;
+
+// 1: no node, over 1,024, or not 4 words and 27 numbers for each.
+fn bad_tables(words: &[u32], numbers: &[f32]) -> bool
+    ensures { λ r. ⌜ r ≡ badTables (now (words .entry)) (now (numbers .entry)) ⌝ }
+{
+    let n = words.len() / 4;
+    if n == 0 {
+        return true;
+    }
+    if 1024 < n {
+        return true;
+    }
+    if words.len() != 4 * n {
+        return true;
+    }
+    numbers.len() != 27 * n
+}
+
+// 1: not 16 row numbers and 2 row words for each node.
+fn bad_rows(words: &[u32], rows: &[f32], marks: &[u32]) -> bool
+    requires { ⌜ nodesIn (now words) ≤ 1024 ⌝ }
+    ensures { λ r. ⌜ r ≡ badRows (now (words .entry)) (now (rows .entry)) (now (marks .entry)) ⌝ }
+{
+    let n = words.len() / 4;
+    if rows.len() != 16 * n {
+        return true;
+    }
+    marks.len() != 2 * n
+}
+
+// 2: the lowest node at fault.
+pub fn check_tree(words: &[u32]) -> Found
+    ensures { λ r. ⌜ r ≡ lowest (badTree (now (words .entry))) (nodesIn (now (words .entry))) ⌝ }
+{
+    let n = words.len() / 4;
+    if n == 0 {
+        return Found::Nowhere;
+    }
+    let size = word(words, 0, 0) as usize;
+    if size != n {
+        return Found::At(NodeId(0));
+    }
+    if long_leaf(word(words, 0, 1), size) {
+        return Found::At(NodeId(0));
+    }
+    below(&words[4..4 * n], 1, 31)
+}
+
+// 2.
+fn tree_tested(words: &[u32]) -> Tested
+    ensures { λ r. ⌜ r ≡ no2 (now (words .entry)) ⌝ }
+{
+    match check_tree(words) {
+        Found::Nowhere => Tested::Pass,
+        Found::At(i) => Tested::Refuse(Answer::Tree(i)),
+    }
+}
+
+// 3.
+fn codes_tested(words: &[u32]) -> Tested
+    requires { ⌜ nodesIn (now words) ≤ 1024 ⌝ }
+    ensures { λ r. ⌜ r ≡ no3 (now (words .entry)) ⌝ }
+{
+    match first_bad_codes(words) {
+        Found::Nowhere => Tested::Pass,
+        Found::At(i) => Tested::Refuse(Answer::Codes(i)),
+    }
+}
+
+// 4: the question's place is n.
+fn question_place(words: &[u32]) -> u32
+    requires { ⌜ nodesIn (now words) ≤ 1024 ⌝ }
+    ensures { λ r. ⌜ r ≡ nodesIn (now (words .entry)) ⌝ }
+{
+    (words.len() / 4) as u32
+}
+
+// 4: the nodes first, then the question.
+fn numbers_tested(words: &[u32], numbers: &[f32], q: LayoutInput) -> Tested
+    requires { ⌜ nodesIn (now words) ≤ 1024 ⌝ }
+    ensures { λ r. ⌜ r ≡ no4 (now (words .entry)) (now (numbers .entry)) q ⌝ }
+{
+    if let Found::At(i) = first_bad_numbers(words, numbers) {
+        return Tested::Refuse(Answer::Numbers(i.0));
+    }
+    if bad_question(q) {
+        return Tested::Refuse(Answer::Numbers(question_place(words)));
+    }
+    Tested::Pass
+}
+
+// 5.
+fn room_tested(words: &[u32], pairs: &[u32], triples: &[f32]) -> Tested
+    requires { ⌜ GoodTable (now words) ⌝ }
+    ensures { λ r. ⌜ RoomTested (now (words .entry)) (now (pairs .entry)) (now (triples .entry)) r ⌝ }
+{
+    if records_in(pairs, triples) < count_needed(words) {
+        return Tested::Refuse(Answer::Room);
+    }
+    Tested::Pass
+}
+
+// 7.
+fn root_tested(marks: &[u32]) -> Tested
+    ensures { λ r. ⌜ r ≡ no7 (now (marks .entry)) ⌝ }
+{
+    if flag(word(marks, 0, 1), 0) {
+        return Tested::Pass;
+    }
+    Tested::Refuse(Answer::NotLaid)
+}
+
+// 2 to 4.
+fn page_tested(words: &[u32], numbers: &[f32], q: LayoutInput) -> Tested
+    requires { ⌜ nodesIn (now words) ≤ 1024 ⌝ }
+    ensures { λ r. ⌜ r ≡ pageTested (now (words .entry)) (now (numbers .entry)) q ⌝ }
+{
+    if let Tested::Refuse(a) = tree_tested(words) {
+        return Tested::Refuse(a);
+    }
+    if let Tested::Refuse(a) = codes_tested(words) {
+        return Tested::Refuse(a);
+    }
+    numbers_tested(words, numbers, q)
+}
+
+// The tests of a layout: 1 to 5.
+pub fn layout_tested(
+    words: &[u32],
+    numbers: &[f32],
+    rows: &[f32],
+    marks: &[u32],
+    pairs: &[u32],
+    triples: &[f32],
+    q: LayoutInput,
+) -> Tested
+    ensures { λ r. ⌜ r ≡ layoutTested (now (words .entry)) (now (numbers .entry)) (now (rows .entry)) (now (marks .entry)) (now (pairs .entry)) (now (triples .entry)) q ⌝ }
+{
+    if bad_tables(words, numbers) {
+        return Tested::Refuse(Answer::Lengths);
+    }
+    if bad_rows(words, rows, marks) {
+        return Tested::Refuse(Answer::Lengths);
+    }
+    if let Tested::Refuse(a) = page_tested(words, numbers, q) {
+        return Tested::Refuse(a);
+    }
+    room_tested(words, pairs, triples)
+}
+
+// The tests of a relayout: 1 to 7.
+pub fn relayout_tested(
+    words: &[u32],
+    numbers: &[f32],
+    rows: &[f32],
+    marks: &[u32],
+    pairs: &[u32],
+    triples: &[f32],
+    edits: &[u32],
+    q: LayoutInput,
+) -> Tested
+    ensures { λ r. ⌜ r ≡ relayoutTested (now (words .entry)) (now (numbers .entry)) (now (rows .entry)) (now (marks .entry)) (now (pairs .entry)) (now (triples .entry)) (now (edits .entry)) q ⌝ }
+{
+    if let Tested::Refuse(a) = layout_tested(words, numbers, rows, marks, pairs, triples, q) {
+        return Tested::Refuse(a);
+    }
+    if let Tested::Refuse(a) = edits_tested(edits, words.len() / 4) {
+        return Tested::Refuse(a);
+    }
+    root_tested(marks)
+}
+
+// The tests of a size question: 1 without rows, and 2 to 4.
+pub fn size_tested(words: &[u32], numbers: &[f32], q: LayoutInput) -> Tested
+    ensures { λ r. ⌜ r ≡ sizeTested (now (words .entry)) (now (numbers .entry)) q ⌝ }
+{
+    if bad_tables(words, numbers) {
+        return Tested::Refuse(Answer::Lengths);
+    }
+    page_tested(words, numbers, q)
+}

@@ -1,0 +1,87 @@
+// 5: how many candidate records are needed, and how many are lent.
+ghost use mathlib.Core.Path.{_≡_};
+ghost use Rattle.tables.specs.TreeCheck.{GoodTable};
+ghost use Rattle.steps.specs.Noes.{recordsIn};
+ghost use Rattle.steps.specs.Width.{positioned, flowBy};
+ghost use Rattle.tables.specs.Walk.{flowAt, countedBy, passedBy, NeededIn};
+use steps::Flow;
+use style::Kind;
+use style::Position;
+use style::kind_of;
+use style::position_of;
+use style::word;
+
+// 5: hidden wins over out of flow.
+fn placed(p: Position) -> Flow
+    ensures { λ r. ⌜ r ≡ positioned p ⌝ }
+{
+    match p {
+        Position::Static => Flow::In,
+        Position::Relative => Flow::In,
+        Position::Absolute => Flow::Out,
+    }
+}
+
+fn flow_by(k: Kind, p: Position) -> Flow
+    ensures { λ r. ⌜ r ≡ flowBy k p ⌝ }
+{
+    match k {
+        Kind::Block => placed(p),
+        Kind::Leaf => placed(p),
+        Kind::Hidden => Flow::Gone,
+    }
+}
+
+fn flow_at(style: u32) -> Flow
+    ensures { λ r. ⌜ r ≡ flowAt style ⌝ }
+{
+    flow_by(kind_of(style), position_of(style))
+}
+
+// 5: a shown out-of-flow child is one candidate.
+fn counted(flow: Flow) -> usize
+    ensures { λ r. ⌜ r ≡ countedBy flow ⌝ }
+{
+    match flow {
+        Flow::Gone => 0,
+        Flow::Out => 1,
+        Flow::In => 0,
+    }
+}
+
+// 5: the run of a hidden or out-of-flow child is passed whole.
+fn passed(flow: Flow, size: usize) -> usize
+    ensures { λ r. ⌜ r ≡ passedBy flow size ⌝ }
+{
+    match flow {
+        Flow::Gone => size,
+        Flow::Out => size,
+        Flow::In => 1,
+    }
+}
+
+// 5: how many candidate records are needed, from kind, position and sizes alone.
+pub(crate) fn count_needed(words: &[u32]) -> usize
+    requires { ⌜ GoodTable (now words) ⌝ }
+    ensures { λ r. ⌜ NeededIn (now (words .entry)) r ⌝ }
+{
+    let n = words.len() / 4;
+    let mut i = 1;
+    let mut count = 0;
+    while i < n {
+        let flow = flow_at(word(words, i, 1));
+        let size = word(words, i, 0) as usize;
+        count += counted(flow);
+        i += passed(flow, size);
+    }
+    count
+}
+
+// 5: how many are lent.
+pub(crate) fn records_in(words: &[u32], numbers: &[f32]) -> usize
+    ensures { λ r. ⌜ r ≡ recordsIn (now (words .entry)) (now (numbers .entry)) ⌝ }
+{
+    let twos = words.len() / 2;
+    let threes = numbers.len() / 3;
+    if threes < twos { threes } else { twos }
+}
