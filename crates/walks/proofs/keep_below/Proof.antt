@@ -15,7 +15,7 @@ use Rattle.walks.proofs.keep_below.Statement.{statement}
 use Rattle.walks.proofs.keep_below.Tie as tie
 
 abbrev Inv-loop : tie.InvT-loop
-Inv-loop words rows₀ marks₀ i₀ rows marks i = 
+Inv-loop words rows₀ marks₀ i₀ rows marks i =
     (length rows ≡ length rows₀) × (length marks ≡ length marks₀) × (4 * i ≤ length words)
     × ((xs : List Float) (es : List ℕ) (b : ℕ) (ts : Forest Cell) → TabledF words xs rows₀ marks₀ es b ts → Rest words xs rows marks es b ts i)
 
@@ -28,7 +28,6 @@ at-turn : (c : tie.After-word Inv-loop μ-loop)
 at-turn c =
     let s = c .before .before .before .before .before .before .pre in
     turn _ _ _ _ _ _ (s .forest) _ _ (ap (λ (k : ℕ). c .before .before .loop .i + k) (c .word .ensures)) (c .before .before .loop .inv .3 (s .numbers) (s .edits) (s .base) (s .forest) (s .tabled)) (c .before .loop-test .taken)
-
 
 loop-holds : tie.Need-loop-holds Inv-loop μ-loop
 loop-holds c = let s = c .before .before .before in (refl, refl, omega arith, λ xs es b ts h. begin _ _ _ _ _ _ ts h)

@@ -1,0 +1,96 @@
+-- What the members of the engine's cycle promise: at any tree that has these tables, memory ends as the definition says.
+use mathlib.Core.Path.{_≡_}
+use mathlib.Core.Bool.{Bool, not, _&&_}
+use mathlib.Core.List.{List, [], _∷_, _++_}
+use Prim.Native.Nat.{ℕ, _+_, _*_, _≤_, _-_}
+use lib.ListN.{length, replicate}
+use lib.Ieee.{Float}
+use Rattle.geometry.specs.Geometry.{zeroF}
+use Rattle.util.specs.declared.OptionF32.{OptionF32}
+use Rattle.tree.specs.Tree.{Tree, Forest, node, none, more, countT, countF, depthT, depthF, flatT, flatF, mapT, mapF, rootT, onRoot}
+use Rattle.steps.specs.Width.{flowOf}
+use Rattle.steps.specs.Stack.{startOf, itemOf, stepJ, placeOf, stepped, lineOf, edgesOf, pastAside, pastHidden}
+use Rattle.steps.specs.Row.{Row, rowNumbers, rowWords, hiddenRow, asideRow, laidRow, probeOf, putAt}
+use Rattle.steps.specs.Page.{Cell, Node, staying}
+use Rattle.steps.specs.Kept.{Laid, finalStands, zerosT}
+use Rattle.steps.specs.Layout.{Stacked, alignF, layT, layF, askT}
+use Rattle.steps.specs.declared.Flow.{Flow}
+use Rattle.steps.specs.declared.Flow.the-variants.{Gone, Out, In}
+use Rattle.steps.specs.declared.LayoutInput.{LayoutInput}
+use Rattle.steps.specs.declared.LayoutOutput.{LayoutOutput}
+use Rattle.steps.specs.declared.Frame.{Frame}
+use Rattle.steps.specs.declared.Cursor.{Cursor}
+use Rattle.walks.specs.Tables.{newNumbers, newWords, TabledT, TabledF, RowsOf}
+use Rattle.rows.specs.Edited.{touched}
+
+-- some tree has these tables; no deeper than `depth`, and its numbers are a page's
+pub record IsTree (ws : List ℕ) (xs rs : List Float) (ms es : List ℕ) (b depth : ℕ) : Type 0 where
+  pub tree : Tree Cell
+  pub tabled : TabledT ws xs rs ms es b tree
+  pub deep : depthT tree ≤ depth
+  pub fit : b + countT tree ≤ 1024
+
+pub record IsForest (ws : List ℕ) (xs rs : List Float) (ms es : List ℕ) (b depth : ℕ) : Type 0 where
+  pub forest : Forest Cell
+  pub tabled : TabledF ws xs rs ms es b forest
+  pub deep : depthF forest ≤ depth
+  pub fit : b + countF forest ≤ 1024
+
+-- one child of the stack: the cursor past it, and its rows
+pub record Placed : Type 0 where
+  pub end : Cursor
+  pub rows : Tree Row
+
+unfoldable pub placedIn : Frame → Cursor → Tree Node → Laid → Placed
+placedIn f c t a =
+    record {
+      end = stepped f c (itemOf f (rootT t .site .style)) (a .out);
+      rows = onRoot (putAt (placeOf f c (itemOf f (rootT t .site .style)) (a .out)) (c .shown .0)) (a .rows);
+    }
+
+unfoldable pub placedBy : Flow → Frame → Cursor → Tree Node → Placed
+placedBy Gone f c t = record { end = pastHidden c; rows = onRoot (λ _. hiddenRow (c .count)) (zerosT t) }
+placedBy Out f c t =
+    record { end = pastAside c; rows = onRoot (λ _. asideRow (edgesOf f .start) (lineOf f c) (edgesOf f .end) (c .shown .0)) (zerosT t) }
+placedBy In f c t = placedIn f c t (askT t (stepJ f (rootT t .site .style)))
+
+unfoldable pub placedT : Frame → Cursor → Tree Node → Placed
+placedT f c t = placedBy (flowOf (rootT t .site .style)) f c t
+
+-- rows and marks are those of a tree of rows
+abbrev pub AreT : List Float → List ℕ → Tree Row → Type 0
+AreT rs ms t = (rs ≡ flatT newNumbers t) × (ms ≡ flatT newWords t)
+
+abbrev pub AreF : List Float → List ℕ → Forest Row → Type 0
+AreF rs ms ts = (rs ≡ flatF newNumbers ts) × (ms ≡ flatF newWords ts)
+
+abbrev pub LaidT : List ℕ → List Float → List Float → List ℕ → List ℕ → ℕ → LayoutInput → Float → LayoutOutput → List Float → List ℕ → Type 0
+LaidT ws xs rs ms es b q found out rs′ ms′ =
+    (t : Tree Cell) → TabledT ws xs rs ms es b t → (out ≡ layT (mapT staying t) q found .out) × AreT rs′ ms′ (layT (mapT staying t) q found .rows)
+
+abbrev pub AskedT : List ℕ → List Float → List Float → List ℕ → List ℕ → ℕ → LayoutInput → LayoutOutput → List Float → List ℕ → Type 0
+AskedT ws xs rs ms es b q out rs′ ms′ =
+    (t : Tree Cell) → TabledT ws xs rs ms es b t → (out ≡ askT (mapT staying t) q .out) × AreT rs′ ms′ (askT (mapT staying t) q .rows)
+
+abbrev pub PlacedT : List ℕ → List Float → List Float → List ℕ → List ℕ → ℕ → Frame → Cursor → Cursor → List Float → List ℕ → Type 0
+PlacedT ws xs rs ms es b f c end rs′ ms′ =
+    (t : Tree Cell) → TabledT ws xs rs ms es b t → (end ≡ placedT f c (mapT staying t) .end) × AreT rs′ ms′ (placedT f c (mapT staying t) .rows)
+
+abbrev pub LaidF : List ℕ → List Float → List Float → List ℕ → List ℕ → ℕ → Frame → Cursor → List Float → List ℕ → Type 0
+LaidF ws xs rs ms es b f end rs′ ms′ =
+    (ts : Forest Cell) → TabledF ws xs rs ms es b ts → (end ≡ layF (mapF staying ts) f (startOf f) .end) × AreF rs′ ms′ (layF (mapF staying ts) f (startOf f) .rows)
+
+-- step M on every forest of rows
+abbrev pub Aligned : List ℕ → List Float → List ℕ → OptionF32 → List Float → Type 0
+Aligned ws rs ms shift after = (ts : Forest Row) → RowsOf ws rs ms ts → after ≡ flatF newNumbers (alignF shift ts)
+
+-- a leaf's row, and zeros after it
+abbrev pub LeafPut : List Float → List ℕ → LayoutInput → LayoutOutput → List Float → List ℕ → Type 0
+LeafPut rs ms q o rs′ ms′ =
+    (r : Row) (z : List Float) (y : List ℕ) → rs ≡ rowNumbers r ++ z → ms ≡ rowWords r ++ y
+    → (rs′ ≡ rowNumbers (laidRow q o (probeOf r)) ++ replicate (length rs - 16) zeroF) × (ms′ ≡ rowWords (laidRow q o (probeOf r)) ++ replicate (length ms - 2) 0)
+
+-- the answer of a node may be kept
+abbrev pub Stands : List Float → List ℕ → List ℕ → ℕ → ℕ → LayoutInput → Bool → Type 0
+Stands rs ms es b n q v =
+    (r : Row) (z : List Float) (y : List ℕ) → rs ≡ rowNumbers r ++ z → ms ≡ rowWords r ++ y → v ≡ (not (touched es b n) && finalStands q r)

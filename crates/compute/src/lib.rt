@@ -1,0 +1,191 @@
+// The final pass, in place: containers and stacks call each other (the crate's src/compute/block.rs).
+ghost use mathlib.Core.Path.{_≡_};
+ghost use Rattle.rows.specs.Store.{Room};
+ghost use Rattle.steps.specs.Stack.{Counts};
+ghost use Rattle.walks.specs.Tables.{IsRows};
+ghost use Rattle.compute.specs.Contract.{IsTree, IsForest, LaidT, AskedT, PlacedT, LaidF, Aligned, LeafPut, Stands};
+use steps::Cursor;
+use steps::Flow;
+use steps::Frame;
+use steps::LayoutInput;
+use steps::LayoutOutput;
+use util::OptionF32;
+
+// Step M, where there is a shift.
+fn align(words: &[u32], rows: &mut [f32], marks: &[u32], shift: OptionF32)
+    requires { ⌜ IsRows (now words) (now rows) (now marks) ⌝ }
+    ensures { λ _. ⌜ Aligned (now (words .entry)) (now (rows .entry)) (now (marks .entry)) shift (now (rows .exit)) ⌝ }
+{
+    match shift {
+        OptionF32::None => {}
+        OptionF32::Some(d) => walks::lower(words, rows, marks, d),
+    }
+}
+
+// A leaf's own row; what stands below is zero.
+fn put_leaf(rows: &mut [f32], marks: &mut [u32], q: LayoutInput, o: LayoutOutput)
+    requires { ⌜ Room (now rows) (now marks) ⌝ }
+    ensures { λ _. ⌜ LeafPut (now (rows .entry)) (now (marks .entry)) q o (now (rows .exit)) (now (marks .exit)) ⌝ }
+{
+    rows::put_head(rows, marks, q, o);
+    rows::clear(&mut rows[16..]);
+    rows::clear_marks(&mut marks[2..]);
+}
+
+// May the answer in the first row be kept?
+fn stands(rows: &[f32], marks: &[u32], edits: &[u32], base: usize, n: usize, q: LayoutInput) -> bool
+    requires { ⌜ Room (now rows) (now marks) ⌝ }
+    ensures { λ v. ⌜ Stands (now (rows .entry)) (now (marks .entry)) (now (edits .entry)) base n q v ⌝ }
+{
+    if rows::any_edit(edits, base, n) {
+        return false;
+    }
+    rows::final_stands(rows, marks, q)
+}
+
+// One container: steps A to N.
+fn compute_block_layout(
+    words: &[u32],
+    numbers: &[f32],
+    rows: &mut [f32],
+    marks: &mut [u32],
+    edits: &[u32],
+    base: usize,
+    depth: usize,
+    q: LayoutInput,
+    found: f32,
+) -> LayoutOutput
+    requires { ⌜ IsTree (now words) (now numbers) (now rows) (now marks) (now edits) base depth ⌝ }
+    ensures { λ r. ⌜ LaidT (now (words .entry)) (now (numbers .entry)) (now (rows .entry)) (now (marks .entry)) (now (edits .entry)) base q found r (now (rows .exit)) (now (marks .exit)) ⌝ }
+{
+    let s = style::style_at(words, 0, numbers, base);
+    let kind = s.kind;
+    if widths::is_leaf(kind) {
+        let m = s.measure;
+        let o = heights::leaf_output(m, q);
+        put_leaf(rows, marks, q, o);
+        return o;
+    }
+    let f = frames::frame_of(s, q, found);
+    let end = perform_final_layout_on_in_flow_children(
+        &words[4..],
+        numbers,
+        &mut rows[16..],
+        &mut marks[2..],
+        edits,
+        base + 1,
+        depth - 1,
+        f,
+    );
+    let d = heights::finish(s, q, f, end);
+    let o = d.output;
+    let shift = d.shift;
+    rows::put_head(rows, marks, q, o);
+    align(&words[4..], &mut rows[16..], &marks[2..], shift);
+    o
+}
+
+// The children of a container, one after the other: step J.
+fn perform_final_layout_on_in_flow_children(
+    words: &[u32],
+    numbers: &[f32],
+    rows: &mut [f32],
+    marks: &mut [u32],
+    edits: &[u32],
+    base: usize,
+    depth: usize,
+    f: Frame,
+) -> Cursor
+    requires { ⌜ IsForest (now words) (now numbers) (now rows) (now marks) (now edits) base depth ⌝ }
+    ensures { λ r. ⌜ LaidF (now (words .entry)) (now (numbers .entry)) (now (rows .entry)) (now (marks .entry)) (now (edits .entry)) base f r (now (rows .exit)) (now (marks .exit)) ⌝ }
+{
+    let mut c = stacking::start_of(f);
+    let mut a = 0usize;
+    while 4 * a < words.len() {
+        let e = a + style::word(words, a, 0) as usize;
+        let a4 = 4 * a;
+        let e4 = 4 * e;
+        let a16 = 16 * a;
+        let e16 = 16 * e;
+        let a2 = 2 * a;
+        let e2 = 2 * e;
+        c = perform_child_layout(
+            &words[a4..e4],
+            numbers,
+            &mut rows[a16..e16],
+            &mut marks[a2..e2],
+            edits,
+            base + a,
+            depth,
+            f,
+            c,
+        );
+        a = e;
+    }
+    c
+}
+
+// One child: hidden, out of flow, or asked and placed.
+fn perform_child_layout(
+    words: &[u32],
+    numbers: &[f32],
+    rows: &mut [f32],
+    marks: &mut [u32],
+    edits: &[u32],
+    base: usize,
+    depth: usize,
+    f: Frame,
+    c: Cursor,
+) -> Cursor
+    requires tables { ⌜ IsTree (now words) (now numbers) (now rows) (now marks) (now edits) base depth ⌝ }
+    requires counts { ⌜ Counts c ⌝ }
+    ensures { λ r. ⌜ PlacedT (now (words .entry)) (now (numbers .entry)) (now (rows .entry)) (now (marks .entry)) (now (edits .entry)) base f c r (now (rows .exit)) (now (marks .exit)) ⌝ }
+{
+    let s = style::style_at(words, 0, numbers, base);
+    let flow = widths::flow_of(s);
+    match flow {
+        Flow::Gone => {
+            rows::put_hidden(rows, marks, c.count);
+            stacking::past_hidden(c)
+        }
+        Flow::Out => {
+            let shown = c.shown;
+            let edges = stacking::edges_of(f);
+            let line = stacking::line_of(f, c);
+            rows::put_aside(rows, marks, edges, line, shown);
+            stacking::past_aside(c)
+        }
+        Flow::In => {
+            let q = stacking::question_to(f, s);
+            let o = compute_child_layout(words, numbers, rows, marks, edits, base, depth, q);
+            let i = stacking::item_of(f, s);
+            let p = stacking::place_of(f, c, i, o);
+            let shown = c.shown;
+            rows::put_place(rows, marks, p, shown);
+            stacking::stepped_past(f, c, i, o)
+        }
+    }
+}
+
+// What a child is answered: its old answer where that stands, else a new one.
+fn compute_child_layout(
+    words: &[u32],
+    numbers: &[f32],
+    rows: &mut [f32],
+    marks: &mut [u32],
+    edits: &[u32],
+    base: usize,
+    depth: usize,
+    q: LayoutInput,
+) -> LayoutOutput
+    requires { ⌜ IsTree (now words) (now numbers) (now rows) (now marks) (now edits) base depth ⌝ }
+    ensures { λ r. ⌜ AskedT (now (words .entry)) (now (numbers .entry)) (now (rows .entry)) (now (marks .entry)) (now (edits .entry)) base q r (now (rows .exit)) (now (marks .exit)) ⌝ }
+{
+    let n = words.len() / 4;
+    if stands(rows, marks, edits, base, n, q) {
+        let o = rows::output_in(rows, marks);
+        walks::keep_below(&words[4..], &mut rows[16..], &mut marks[2..]);
+        return o;
+    }
+    compute_block_layout(words, numbers, rows, marks, edits, base, depth, q, 0.0)
+}
