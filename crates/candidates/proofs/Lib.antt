@@ -1,0 +1,4 @@
+pub mod MoveLoop
+pub mod RowParts
+pub mod GatherLoop
+pub mod OneTree
