@@ -31,17 +31,17 @@ triple-put (x ∷ []) a b c h = absurd (omega arith)
 triple-put (x ∷ y ∷ []) a b c h = absurd (omega arith)
 triple-put (x ∷ y ∷ z ∷ l) a b c h = refl
 
-at-out : (b : ℕ) (r : Row) (l : List Candidate) → flagAt (r .bits) 2 ≡ true → candidatesAt b r l ≡ candidateOf b r ∷ []
-unfolding candidatesAt isOut
-at-out b r l e = rw e
-
-at-laid : (b : ℕ) (r : Row) (l : List Candidate) → flagAt (r .bits) 2 ≡ false → flagAt (r .bits) 0 ≡ true → candidatesAt b r l ≡ map (movedBy r) l
+at-out : (b : ℕ) (r : Row) (l : List Candidate) → flagAt (r .bits) 0 ≡ false → flagAt (r .bits) 2 ≡ true → candidatesAt b r l ≡ candidateOf b r ∷ []
 unfolding candidatesAt isOut isLaid
-at-laid b r l e h = rw (e, h)
+at-out b r l h e = rw (h, e)
 
-at-none : (b : ℕ) (r : Row) (l : List Candidate) → flagAt (r .bits) 2 ≡ false → flagAt (r .bits) 0 ≡ false → candidatesAt b r l ≡ []
+at-laid : (b : ℕ) (r : Row) (l : List Candidate) → flagAt (r .bits) 0 ≡ true → candidatesAt b r l ≡ map (movedBy r) l
+unfolding candidatesAt isLaid
+at-laid b r l h = rw h
+
+at-none : (b : ℕ) (r : Row) (l : List Candidate) → flagAt (r .bits) 0 ≡ false → flagAt (r .bits) 2 ≡ false → candidatesAt b r l ≡ []
 unfolding candidatesAt isOut isLaid
-at-none b r l e h = rw (e, h)
+at-none b r l h e = rw (h, e)
 
 -- what the first row of a tree's table says
 pub bits-of : (ws : List ℕ) (rs : List Float) (ms : List ℕ) (r : Row) (ks : Forest Row) → RowsOfT ws rs ms (node r ks) → getD ms 1 0 ≡ r .bits
@@ -51,16 +51,16 @@ one-record : (b : ℕ) (r : Row) → (listed candidateWords (candidateOf b r ∷
 unfolding listed candidateOf
 one-record b r = (refl, refl)
 
-pub out-gathered : (ws : List ℕ) (rs : List Float) (ms : List ℕ) (b : ℕ) (pairs : List ℕ) (triples : List Float) (pairs′ : List ℕ) (triples′ : List Float) → flagAt (getD ms 1 0) 2 ≡ true
+pub out-gathered : (ws : List ℕ) (rs : List Float) (ms : List ℕ) (b : ℕ) (pairs : List ℕ) (triples : List Float) (pairs′ : List ℕ) (triples′ : List Float) → flagAt (getD ms 1 0) 0 ≡ false → flagAt (getD ms 1 0) 2 ≡ true
     → RecordPut pairs triples b (getD ms 0 0) (getD rs 0 nan) (getD rs 2 nan) (getD rs 1 nan) pairs′ triples′ → GathersT ws rs ms b pairs triples 1 pairs′ triples′
-out-gathered ws rs ms b pairs triples pairs′ triples′ e p (node r ks) h room =
+out-gathered ws rs ms b pairs triples pairs′ triples′ z e p (node r ks) h room =
     let f = facts ws rs ms r ks h in
     let bits = bits-of ws rs ms r ks h in
     let o : getD ms 0 0 ≡ r .order = ap (λ (z : List ℕ). getD z 0 0) (f .marks-head) in
     let x : getD rs 0 nan ≡ r .x = ap (λ (z : List Float). getD z 0 nan) (f .rows-head) in
     let y : getD rs 1 nan ≡ r .y = ap (λ (z : List Float). getD z 1 nan) (f .rows-head) in
     let w : getD rs 2 nan ≡ r .w = ap (λ (z : List Float). getD z 2 nan) (f .rows-head) in
-    let l : candidatesT b (node r ks) ≡ candidateOf b r ∷ [] = candT-node b r ks ∙ at-out b r _ (ap (λ (n : ℕ). flagAt n 2) (sym bits) ∙ e) in
+    let l : candidatesT b (node r ks) ≡ candidateOf b r ∷ [] = candT-node b r ks ∙ at-out b r _ (ap (λ (n : ℕ). flagAt n 0) (sym bits) ∙ z) (ap (λ (n : ℕ). flagAt n 2) (sym bits) ∙ e) in
     let one = one-record b r in
     rw l (record {
       count = refl;
@@ -68,10 +68,10 @@ out-gathered ws rs ms b pairs triples pairs′ triples′ e p (node r ks) h room
       triples-are = p .triples-are ∙ rw (x, y, w) (ap (λ (z : List Float). z ++ drop 3 triples) (sym (one .1)));
     })
 
-pub none-gathered : (ws : List ℕ) (rs : List Float) (ms : List ℕ) (b : ℕ) (pairs : List ℕ) (triples : List Float) → flagAt (getD ms 1 0) 2 ≡ false → flagAt (getD ms 1 0) 0 ≡ false → GathersT ws rs ms b pairs triples 0 pairs triples
-none-gathered ws rs ms b pairs triples e z (node r ks) h room =
+pub none-gathered : (ws : List ℕ) (rs : List Float) (ms : List ℕ) (b : ℕ) (pairs : List ℕ) (triples : List Float) → flagAt (getD ms 1 0) 0 ≡ false → flagAt (getD ms 1 0) 2 ≡ false → GathersT ws rs ms b pairs triples 0 pairs triples
+none-gathered ws rs ms b pairs triples z e (node r ks) h room =
     let bits = bits-of ws rs ms r ks h in
-    let l : candidatesT b (node r ks) ≡ [] = candT-node b r ks ∙ at-none b r _ (ap (λ (n : ℕ). flagAt n 2) (sym bits) ∙ e) (ap (λ (n : ℕ). flagAt n 0) (sym bits) ∙ z) in
+    let l : candidatesT b (node r ks) ≡ [] = candT-node b r ks ∙ at-none b r _ (ap (λ (n : ℕ). flagAt n 0) (sym bits) ∙ z) (ap (λ (n : ℕ). flagAt n 2) (sym bits) ∙ e) in
     rw l (record { count = refl; pairs-are = sym (ap (λ (v : List ℕ). v ++ pairs) (listed-nil candidateWords)); triples-are = sym (ap (λ (v : List Float). v ++ triples) (listed-nil candidateNumbers)) })
 
 -- moving by a row's place
@@ -93,34 +93,34 @@ words-stay x y (c ∷ l) = listed-cons candidateWords (shifted x y c) (map (shif
     ∙ ap (λ (z : List ℕ). z ++ listed candidateWords l) (shift-words x y c) ∙ sym (listed-cons candidateWords c l)
 
 -- what the kids are given
-pub kids-room : (ws : List ℕ) (rs : List Float) (ms : List ℕ) (b : ℕ) (pairs : List ℕ) (triples : List Float) (r : Row) (ks : Forest Row) → RowsOfT ws rs ms (node r ks) → flagAt (getD ms 1 0) 2 ≡ false → flagAt (getD ms 1 0) 0 ≡ true
+pub kids-room : (ws : List ℕ) (rs : List Float) (ms : List ℕ) (b : ℕ) (pairs : List ℕ) (triples : List Float) (r : Row) (ks : Forest Row) → RowsOfT ws rs ms (node r ks) → flagAt (getD ms 1 0) 0 ≡ true
     → RoomFor (candidatesT b (node r ks)) pairs triples → RoomFor (candidatesF (b + 1) ks) pairs triples
-kids-room ws rs ms b pairs triples r ks h e z room =
+kids-room ws rs ms b pairs triples r ks h z room =
     let bits = bits-of ws rs ms r ks h in
-    let l : candidatesT b (node r ks) ≡ map (movedBy r) (candidatesF (suc b) ks) = candT-node b r ks ∙ at-laid b r _ (ap (λ (n : ℕ). flagAt n 2) (sym bits) ∙ e) (ap (λ (n : ℕ). flagAt n 0) (sym bits) ∙ z) in
+    let l : candidatesT b (node r ks) ≡ map (movedBy r) (candidatesF (suc b) ks) = candT-node b r ks ∙ at-laid b r _ (ap (λ (n : ℕ). flagAt n 0) (sym bits) ∙ z) in
     let n : length (candidatesT b (node r ks)) ≡ length (candidatesF (b + 1) ks) = ap length l ∙ length-map (candidatesF (suc b) ks) (movedBy r) ∙ ap (λ (k : ℕ). length (candidatesF k ks)) (sym (add-one b)) in
     record { pairs-room = omega (arith, room .pairs-room); triples-room = omega (arith, room .triples-room) }
 
-pub kids-given : (ws : List ℕ) (rs : List Float) (ms : List ℕ) (b : ℕ) (pairs : List ℕ) (triples : List Float) → flagAt (getD ms 1 0) 2 ≡ false → flagAt (getD ms 1 0) 0 ≡ true → GivenT ws rs ms b pairs triples
+pub kids-given : (ws : List ℕ) (rs : List Float) (ms : List ℕ) (b : ℕ) (pairs : List ℕ) (triples : List Float) → flagAt (getD ms 1 0) 0 ≡ true → GivenT ws rs ms b pairs triples
     → GivenF (take (length ws - 4) (drop 4 ws)) (take (length rs - 16) (drop 16 rs)) (take (length ms - 2) (drop 2 ms)) (b + 1) pairs triples
-kids-given ws rs ms b pairs triples e z g = go (g .tree) (g .rows-of) (g .fit) (g .room)
+kids-given ws rs ms b pairs triples z g = go (g .tree) (g .rows-of) (g .fit) (g .room)
   where
     go : (t : Tree Row) → RowsOfT ws rs ms t → b + countT t ≤ 1024 → RoomFor (candidatesT b t) pairs triples → GivenF (take (length ws - 4) (drop 4 ws)) (take (length rs - 16) (drop 16 rs)) (take (length ms - 2) (drop 2 ms)) (b + 1) pairs triples
     go (node r ks) h fit room =
-        record { forest = ks; rows-of = facts ws rs ms r ks h .kids; fit = omega (arith, fit, countT-node r ks); room = kids-room ws rs ms b pairs triples r ks h e z room }
+        record { forest = ks; rows-of = facts ws rs ms r ks h .kids; fit = omega (arith, fit, countT-node r ks); room = kids-room ws rs ms b pairs triples r ks h z room }
 
-pub laid-gathered : (ws : List ℕ) (rs : List Float) (ms : List ℕ) (b n : ℕ) (pairs : List ℕ) (triples : List Float) (pairs1 : List ℕ) (triples1 triples2 : List Float) → flagAt (getD ms 1 0) 2 ≡ false → flagAt (getD ms 1 0) 0 ≡ true
+pub laid-gathered : (ws : List ℕ) (rs : List Float) (ms : List ℕ) (b n : ℕ) (pairs : List ℕ) (triples : List Float) (pairs1 : List ℕ) (triples1 triples2 : List Float) → flagAt (getD ms 1 0) 0 ≡ true
     → GathersF (take (length ws - 4) (drop 4 ws)) (take (length rs - 16) (drop 16 rs)) (take (length ms - 2) (drop 2 ms)) (b + 1) pairs triples n pairs1 triples1
     → AllMoved triples1 n (getD rs 0 nan) (getD rs 1 nan) triples2 → GathersT ws rs ms b pairs triples n pairs1 triples2
-laid-gathered ws rs ms b n pairs triples pairs1 triples1 triples2 e z g mv (node r ks) h room =
+laid-gathered ws rs ms b n pairs triples pairs1 triples1 triples2 z g mv (node r ks) h room =
     let f = facts ws rs ms r ks h in
     let bits = bits-of ws rs ms r ks h in
     let x : getD rs 0 nan ≡ r .x = ap (λ (v : List Float). getD v 0 nan) (f .rows-head) in
     let y : getD rs 1 nan ≡ r .y = ap (λ (v : List Float). getD v 1 nan) (f .rows-head) in
     let k = candidatesF (b + 1) ks in
-    let p = g ks (f .kids) (kids-room ws rs ms b pairs triples r ks h e z room) in
+    let p = g ks (f .kids) (kids-room ws rs ms b pairs triples r ks h z room) in
     let l : candidatesT b (node r ks) ≡ map (shifted (r .x) (r .y)) k =
-    candT-node b r ks ∙ at-laid b r _ (ap (λ (i : ℕ). flagAt i 2) (sym bits) ∙ e) (ap (λ (i : ℕ). flagAt i 0) (sym bits) ∙ z) ∙ map-moved r (candidatesF (suc b) ks) ∙ ap (λ (i : ℕ). map (shifted (r .x) (r .y)) (candidatesF i ks)) (sym (add-one b)) in
+    candT-node b r ks ∙ at-laid b r _ (ap (λ (i : ℕ). flagAt i 0) (sym bits) ∙ z) ∙ map-moved r (candidatesF (suc b) ks) ∙ ap (λ (i : ℕ). map (shifted (r .x) (r .y)) (candidatesF i ks)) (sym (add-one b)) in
     let m = mv k (drop (3 * length k) triples) (p .triples-are) (sym (p .count)) in
     let c : length (map (shifted (r .x) (r .y)) k) ≡ length k = length-map k (shifted (r .x) (r .y)) in
     let m2 : triples2 ≡ listed candidateNumbers (map (shifted (r .x) (r .y)) k) ++ drop (3 * length k) triples = rw (x, y) at m in
@@ -147,20 +147,20 @@ given ws rs ms b pairs triples g = go (g .tree) (g .rows-of) (g .fit)
         record { words-some = f .words-some; rows-some = f .rows-some; marks-some = f .marks-some; fit = omega arith; tail-long = rw (tail-part 4 ws) (simp length-drop) }
 
 -- room for one record, and for those that are moved
-pub one-room : (ws : List ℕ) (rs : List Float) (ms : List ℕ) (b : ℕ) (pairs : List ℕ) (triples : List Float) → flagAt (getD ms 1 0) 2 ≡ true → GivenT ws rs ms b pairs triples → RoomOne pairs triples
-one-room ws rs ms b pairs triples e g = go (g .tree) (g .rows-of) (g .room)
+pub one-room : (ws : List ℕ) (rs : List Float) (ms : List ℕ) (b : ℕ) (pairs : List ℕ) (triples : List Float) → flagAt (getD ms 1 0) 0 ≡ false → flagAt (getD ms 1 0) 2 ≡ true → GivenT ws rs ms b pairs triples → RoomOne pairs triples
+one-room ws rs ms b pairs triples z e g = go (g .tree) (g .rows-of) (g .room)
   where
     go : (t : Tree Row) → RowsOfT ws rs ms t → RoomFor (candidatesT b t) pairs triples → RoomOne pairs triples
     go (node r ks) h room =
         let bits = bits-of ws rs ms r ks h in
-        let n : length (candidatesT b (node r ks)) ≡ 1 = ap length (candT-node b r ks ∙ at-out b r (candidatesF (suc b) ks) (ap (λ (i : ℕ). flagAt i 2) (sym bits) ∙ e)) in
+        let n : length (candidatesT b (node r ks)) ≡ 1 = ap length (candT-node b r ks ∙ at-out b r (candidatesF (suc b) ks) (ap (λ (i : ℕ). flagAt i 0) (sym bits) ∙ z) (ap (λ (i : ℕ). flagAt i 2) (sym bits) ∙ e)) in
         record { pairs-room = omega (arith, room .pairs-room); triples-room = omega (arith, room .triples-room) }
 
-pub moved-room : (ws : List ℕ) (rs : List Float) (ms : List ℕ) (b : ℕ) (pairs : List ℕ) (triples : List Float) (n : ℕ) (pairs1 : List ℕ) (triples1 : List Float) → flagAt (getD ms 1 0) 2 ≡ false → flagAt (getD ms 1 0) 0 ≡ true
+pub moved-room : (ws : List ℕ) (rs : List Float) (ms : List ℕ) (b : ℕ) (pairs : List ℕ) (triples : List Float) (n : ℕ) (pairs1 : List ℕ) (triples1 : List Float) → flagAt (getD ms 1 0) 0 ≡ true
     → GivenT ws rs ms b pairs triples → GathersF (take (length ws - 4) (drop 4 ws)) (take (length rs - 16) (drop 16 rs)) (take (length ms - 2) (drop 2 ms)) (b + 1) pairs triples n pairs1 triples1 → length triples1 ≡ length triples → 3 * n ≤ length triples1
-moved-room ws rs ms b pairs triples n pairs1 triples1 e z g f len = go (g .tree) (g .rows-of) (g .room)
+moved-room ws rs ms b pairs triples n pairs1 triples1 z g f len = go (g .tree) (g .rows-of) (g .room)
   where
     go : (t : Tree Row) → RowsOfT ws rs ms t → RoomFor (candidatesT b t) pairs triples → 3 * n ≤ length triples1
     go (node r ks) h room =
-        let k = kids-room ws rs ms b pairs triples r ks h e z room in
+        let k = kids-room ws rs ms b pairs triples r ks h z room in
         omega (arith, f ks (facts ws rs ms r ks h .kids) k .count, k .triples-room)

@@ -78,7 +78,7 @@ pub fn gather(
     used
 }
 
-// The records of one tree: itself if out of flow; if laid, those below, moved by its place.
+// The records of one tree: if laid, those below, moved by its place; itself if out of flow.
 fn gather_child(
     words: &[u32],
     rows: &[f32],
@@ -91,16 +91,6 @@ fn gather_child(
     ensures { λ r. ⌜ GathersT (now (words .entry)) (now (rows .entry)) (now (marks .entry)) base (now (pairs .entry)) (now (triples .entry)) r (now (pairs .exit)) (now (triples .exit)) ⌝ }
 {
     let bits = marks[1];
-    if style::flag(bits, 2) {
-        let node = NodeId(base as u32);
-        let order = Order(marks[0]);
-        let edges = Line {
-            start: rows[0],
-            end: rows[2],
-        };
-        put_record(pairs, triples, node, order, edges, rows[1]);
-        return 1;
-    }
     if style::flag(bits, 0) {
         let n = gather(
             &words[4..],
@@ -112,6 +102,16 @@ fn gather_child(
         );
         move_records(triples, n, rows[0], rows[1]);
         return n;
+    }
+    if style::flag(bits, 2) {
+        let node = NodeId(base as u32);
+        let order = Order(marks[0]);
+        let edges = Line {
+            start: rows[0],
+            end: rows[2],
+        };
+        put_record(pairs, triples, node, order, edges, rows[1]);
+        return 1;
     }
     0
 }

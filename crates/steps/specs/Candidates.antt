@@ -39,9 +39,9 @@ movedBy r c =
       line = add binary32 (c .line) (r .y);
     }
 
--- what one child adds, given the list of what is below it: itself if out of flow; if laid, those, moved by its place
+-- what one child adds, given the list of what is below it: if laid, those, moved by its place; itself if out of flow
 unfoldable pub candidatesAt : ℕ → Row → List Candidate → List Candidate
-candidatesAt b r below = cond (isOut r) (candidateOf b r ∷ []) (cond (isLaid r) (map (movedBy r) below) [])
+candidatesAt b r below = cond (isLaid r) (map (movedBy r) below) (cond (isOut r) (candidateOf b r ∷ []) [])
 
 -- In preorder; b is the number of the first node. Innermost places are added first.
 unfoldable mutual

@@ -194,7 +194,7 @@ gather-returns : (t : ℕ) → gather-lts.Need-returns (gather-calls t) (gather-
 gather-returns t c = λ ts h r. end _ _ _ _ _ _ _ _ ts _ _ (c .before .loop .inv .4 ts h r) (c .loop-test .left)
 
 abbrev gather-child-calls : ℕ → gather-child-lts.Claims
-gather-child-calls t = (flag-reads.Asked, flag-reads.Learnt, put-record-reads.Asked, put-record-reads.Learnt, gather-below t, gather.Post, move-records-reads.Asked, move-records-reads.Learnt)
+gather-child-calls t = (flag-reads.Asked, flag-reads.Learnt, gather-below t, gather.Post, move-records-reads.Asked, move-records-reads.Learnt, put-record-reads.Asked, put-record-reads.Learnt)
 
 gather-child-shared-slice-read-bits : (t : ℕ) → gather-child-lts.Need-shared-slice-read-bits (gather-child-calls t) (gather-child-at t) gather-child.Post
 gather-child-shared-slice-read-bits t c = let f = given _ _ _ _ _ _ (c .before .before .before .before .before .before .pre .1) in omega arith
@@ -202,90 +202,90 @@ gather-child-shared-slice-read-bits t c = let f = given _ _ _ _ _ _ (c .before .
 gather-child-flag-requires : (t : ℕ) → gather-child-lts.Need-flag-requires (gather-child-calls t) (gather-child-at t) gather-child.Post
 gather-child-flag-requires t c κs = search needs
 
-gather-child-cast-t15 : (t : ℕ) → gather-child-lts.Need-cast-t15 (gather-child-calls t) (gather-child-at t) gather-child.Post
-gather-child-cast-t15 t c = let f = given _ _ _ _ _ _ (c .before .before .before .before .before .before .before .before .pre .1) in omega arith
+gather-child-sub-gather : (t : ℕ) → gather-child-lts.Need-sub-gather (gather-child-calls t) (gather-child-at t) gather-child.Post
+gather-child-sub-gather t c = let f = given _ _ _ _ _ _ (c .before .before .before .before .before .before .before .before .pre .1) in omega arith
 
-gather-child-shared-slice-read-t15 : (t : ℕ) → gather-child-lts.Need-shared-slice-read-t15 (gather-child-calls t) (gather-child-at t) gather-child.Post
-gather-child-shared-slice-read-t15 t c = let f = given _ _ _ _ _ _ (c .before .before .before .before .before .before .before .before .before .pre .1) in omega arith
+gather-child-part-gather-start : (t : ℕ) → gather-child-lts.Need-part-gather-start (gather-child-calls t) (gather-child-at t) gather-child.Post
+gather-child-part-gather-start t c = let f = given _ _ _ _ _ _ (c .before .before .before .before .before .before .before .before .pre .1) in omega arith
 
-gather-child-shared-slice-read-put-record :
-    (t : ℕ) → gather-child-lts.Need-shared-slice-read-put-record (gather-child-calls t) (gather-child-at t) gather-child.Post
-gather-child-shared-slice-read-put-record t c = let f = given _ _ _ _ _ _ (c .before .before .before .before .before .before .before .before .before .before .pre .1) in omega arith
+gather-child-part-gather-end : (t : ℕ) → gather-child-lts.Need-part-gather-end (gather-child-calls t) (gather-child-at t) gather-child.Post
+gather-child-part-gather-end t c = let f = given _ _ _ _ _ _ (c .before .before .before .before .before .before .before .before .pre .1) in omega arith
 
-gather-child-shared-slice-read-t20 : (t : ℕ) → gather-child-lts.Need-shared-slice-read-t20 (gather-child-calls t) (gather-child-at t) gather-child.Post
-gather-child-shared-slice-read-t20 t c = let f = given _ _ _ _ _ _ (c .before .before .before .before .before .before .before .before .before .before .before .pre .1) in omega arith
+gather-child-sub-gather-2 : (t : ℕ) → gather-child-lts.Need-sub-gather-2 (gather-child-calls t) (gather-child-at t) gather-child.Post
+gather-child-sub-gather-2 t c = let f = given _ _ _ _ _ _ (c .before .before .before .before .before .before .before .before .before .pre .1) in omega arith
 
-gather-child-shared-slice-read-put-record-2 :
-    (t : ℕ) → gather-child-lts.Need-shared-slice-read-put-record-2 (gather-child-calls t) (gather-child-at t) gather-child.Post
-gather-child-shared-slice-read-put-record-2 t c = let f = given _ _ _ _ _ _ (c .before .before .before .before .before .before .before .before .before .before .before .before .before .before .pre .1) in omega arith
+gather-child-part-gather-start-2 : (t : ℕ) → gather-child-lts.Need-part-gather-start-2 (gather-child-calls t) (gather-child-at t) gather-child.Post
+gather-child-part-gather-start-2 t c = let f = given _ _ _ _ _ _ (c .before .before .before .before .before .before .before .before .before .pre .1) in omega arith
 
-gather-child-put-record-requires : (t : ℕ) → gather-child-lts.Need-put-record-requires (gather-child-calls t) (gather-child-at t) gather-child.Post
-gather-child-put-record-requires t c κs = let s = c .before .before .before .before .before .before .before .before .before .before .before .before .before .before in one-room (s .args .words .now) (s .args .rows .now) (s .args .marks .now) (s .args .base) (s .args .pairs .now) (s .args .triples .now) (sym (c .before .before .before .before .before .before .before .flag .ensures) ∙ c .before .before .before .before .before .before .if1 .taken) (s .pre .1)
+gather-child-part-gather-end-2 : (t : ℕ) → gather-child-lts.Need-part-gather-end-2 (gather-child-calls t) (gather-child-at t) gather-child.Post
+gather-child-part-gather-end-2 t c = let f = given _ _ _ _ _ _ (c .before .before .before .before .before .before .before .before .before .pre .1) in omega arith
+
+gather-child-sub-gather-3 : (t : ℕ) → gather-child-lts.Need-sub-gather-3 (gather-child-calls t) (gather-child-at t) gather-child.Post
+gather-child-sub-gather-3 t c = let f = given _ _ _ _ _ _ (c .before .before .before .before .before .before .before .before .before .before .pre .1) in omega arith
+
+gather-child-part-gather-start-3 : (t : ℕ) → gather-child-lts.Need-part-gather-start-3 (gather-child-calls t) (gather-child-at t) gather-child.Post
+gather-child-part-gather-start-3 t c = let f = given _ _ _ _ _ _ (c .before .before .before .before .before .before .before .before .before .before .pre .1) in omega arith
+
+gather-child-part-gather-end-3 : (t : ℕ) → gather-child-lts.Need-part-gather-end-3 (gather-child-calls t) (gather-child-at t) gather-child.Post
+gather-child-part-gather-end-3 t c = let f = given _ _ _ _ _ _ (c .before .before .before .before .before .before .before .before .before .before .pre .1) in omega arith
+
+gather-child-add-gather : (t : ℕ) → gather-child-lts.Need-add-gather (gather-child-calls t) (gather-child-at t) gather-child.Post
+gather-child-add-gather t c = let f = given _ _ _ _ _ _ (c .before .before .before .before .before .before .before .before .before .before .before .pre .1) in omega arith
+
+gather-child-gather-requires : (t : ℕ) → gather-child-lts.Need-gather-requires (gather-child-calls t) (gather-child-at t) gather-child.Post
+gather-child-gather-requires t c κs = let s = c .before .before .before .before .before .before .before .before .before .before .before .before .before in let f = given _ _ _ _ _ _ (s .pre .1) in (omega (arith, s .pre .0, f .tail-long), kids-given (s .args .words .now) (s .args .rows .now) (s .args .marks .now) (s .args .base) (s .args .pairs .now) (s .args .triples .now) (sym (c .before .before .before .before .before .before .flag .ensures) ∙ c .before .before .before .before .before .if1 .taken) (s .pre .1))
+
+gather-child-shared-slice-read-move-records :
+    (t : ℕ) → gather-child-lts.Need-shared-slice-read-move-records (gather-child-calls t) (gather-child-at t) gather-child.Post
+gather-child-shared-slice-read-move-records t c = let f = given _ _ _ _ _ _ (c .before .before .before .before .before .before .before .before .before .before .before .before .before .before .before .before .before .before .before .before .pre .1) in omega arith
+
+gather-child-shared-slice-read-move-records-2 :
+    (t : ℕ) → gather-child-lts.Need-shared-slice-read-move-records-2 (gather-child-calls t) (gather-child-at t) gather-child.Post
+gather-child-shared-slice-read-move-records-2 t c = let f = given _ _ _ _ _ _ (c .before .before .before .before .before .before .before .before .before .before .before .before .before .before .before .before .before .before .before .before .before .pre .1) in omega arith
+
+gather-child-move-records-requires : (t : ℕ) → gather-child-lts.Need-move-records-requires (gather-child-calls t) (gather-child-at t) gather-child.Post
+gather-child-move-records-requires t c κs = let s = c .before .before .before .before .before .before .before .before .before .before .before .before .before .before .before .before .before .before .before .before .before in moved-room (s .args .words .now) (s .args .rows .now) (s .args .marks .now) (s .args .base) (s .args .pairs .now) (s .args .triples .now) _ _ _ (sym (c .before .before .before .before .before .before .before .before .before .before .before .before .before .before .flag .ensures) ∙ c .before .before .before .before .before .before .before .before .before .before .before .before .before .if1 .taken) (s .pre .1) (c .before .before .before .before .before .before .before .gather .ensures) (omega (arith, c .before .before .before .before .before .before .before .gather .kept))
 
 gather-child-same-length : (t : ℕ) → gather-child-lts.Need-same-length (gather-child-calls t) (gather-child-at t) gather-child.Post
-gather-child-same-length t c = let f = given _ _ _ _ _ _ (c .before .before .before .before .before .before .before .before .before .before .before .before .before .before .before .before .before .before .before .pre .1) in omega arith
+gather-child-same-length t c = let f = given _ _ _ _ _ _ (c .before .before .before .before .before .before .before .before .before .before .before .before .before .before .before .before .before .before .before .before .before .before .before .before .pre .1) in omega arith
 
 gather-child-same-length-2 : (t : ℕ) → gather-child-lts.Need-same-length-2 (gather-child-calls t) (gather-child-at t) gather-child.Post
-gather-child-same-length-2 t c = let f = given _ _ _ _ _ _ (c .before .before .before .before .before .before .before .before .before .before .before .before .before .before .before .before .before .before .before .pre .1) in omega arith
+gather-child-same-length-2 t c = let f = given _ _ _ _ _ _ (c .before .before .before .before .before .before .before .before .before .before .before .before .before .before .before .before .before .before .before .before .before .before .before .before .pre .1) in omega arith
 
 gather-child-returns : (t : ℕ) → gather-child-lts.Need-returns (gather-child-calls t) (gather-child-at t) gather-child.Post
-gather-child-returns t c = let s = c .before .before .before .before .before .before .before .before .before .before .before .before .before .before .before .before .before .before .before in out-gathered (s .args .words .now) (s .args .rows .now) (s .args .marks .now) (s .args .base) (s .args .pairs .now) (s .args .triples .now) _ _ (sym (c .before .before .before .before .before .before .before .before .before .before .before .before .flag .ensures) ∙ c .before .before .before .before .before .before .before .before .before .before .before .if1 .taken) (c .before .before .before .before .put-record .ensures)
+gather-child-returns t c = let s = c .before .before .before .before .before .before .before .before .before .before .before .before .before .before .before .before .before .before .before .before .before .before .before .before in laid-gathered (s .args .words .now) (s .args .rows .now) (s .args .marks .now) (s .args .base) _ (s .args .pairs .now) (s .args .triples .now) _ _ _ (sym (c .before .before .before .before .before .before .before .before .before .before .before .before .before .before .before .before .before .flag .ensures) ∙ c .before .before .before .before .before .before .before .before .before .before .before .before .before .before .before .before .if1 .taken) (c .before .before .before .before .before .before .before .before .before .before .gather .ensures) (c .before .before .move-records .ensures)
 
 gather-child-flag-requires-2 : (t : ℕ) → gather-child-lts.Need-flag-requires-2 (gather-child-calls t) (gather-child-at t) gather-child.Post
 gather-child-flag-requires-2 t c κs = search needs
 
-gather-child-sub-gather : (t : ℕ) → gather-child-lts.Need-sub-gather (gather-child-calls t) (gather-child-at t) gather-child.Post
-gather-child-sub-gather t c = let f = given _ _ _ _ _ _ (c .before .before .before .before .before .before .before .before .before .before .pre .1) in omega arith
+gather-child-cast-t40 : (t : ℕ) → gather-child-lts.Need-cast-t40 (gather-child-calls t) (gather-child-at t) gather-child.Post
+gather-child-cast-t40 t c = let f = given _ _ _ _ _ _ (c .before .before .before .before .before .before .before .before .before .before .pre .1) in omega arith
 
-gather-child-part-gather-start : (t : ℕ) → gather-child-lts.Need-part-gather-start (gather-child-calls t) (gather-child-at t) gather-child.Post
-gather-child-part-gather-start t c = let f = given _ _ _ _ _ _ (c .before .before .before .before .before .before .before .before .before .before .pre .1) in omega arith
+gather-child-shared-slice-read-t40 : (t : ℕ) → gather-child-lts.Need-shared-slice-read-t40 (gather-child-calls t) (gather-child-at t) gather-child.Post
+gather-child-shared-slice-read-t40 t c = let f = given _ _ _ _ _ _ (c .before .before .before .before .before .before .before .before .before .before .before .pre .1) in omega arith
 
-gather-child-part-gather-end : (t : ℕ) → gather-child-lts.Need-part-gather-end (gather-child-calls t) (gather-child-at t) gather-child.Post
-gather-child-part-gather-end t c = let f = given _ _ _ _ _ _ (c .before .before .before .before .before .before .before .before .before .before .pre .1) in omega arith
+gather-child-shared-slice-read-put-record :
+    (t : ℕ) → gather-child-lts.Need-shared-slice-read-put-record (gather-child-calls t) (gather-child-at t) gather-child.Post
+gather-child-shared-slice-read-put-record t c = let f = given _ _ _ _ _ _ (c .before .before .before .before .before .before .before .before .before .before .before .before .pre .1) in omega arith
 
-gather-child-sub-gather-2 : (t : ℕ) → gather-child-lts.Need-sub-gather-2 (gather-child-calls t) (gather-child-at t) gather-child.Post
-gather-child-sub-gather-2 t c = let f = given _ _ _ _ _ _ (c .before .before .before .before .before .before .before .before .before .before .before .pre .1) in omega arith
+gather-child-shared-slice-read-t45 : (t : ℕ) → gather-child-lts.Need-shared-slice-read-t45 (gather-child-calls t) (gather-child-at t) gather-child.Post
+gather-child-shared-slice-read-t45 t c = let f = given _ _ _ _ _ _ (c .before .before .before .before .before .before .before .before .before .before .before .before .before .pre .1) in omega arith
 
-gather-child-part-gather-start-2 : (t : ℕ) → gather-child-lts.Need-part-gather-start-2 (gather-child-calls t) (gather-child-at t) gather-child.Post
-gather-child-part-gather-start-2 t c = let f = given _ _ _ _ _ _ (c .before .before .before .before .before .before .before .before .before .before .before .pre .1) in omega arith
+gather-child-shared-slice-read-put-record-2 :
+    (t : ℕ) → gather-child-lts.Need-shared-slice-read-put-record-2 (gather-child-calls t) (gather-child-at t) gather-child.Post
+gather-child-shared-slice-read-put-record-2 t c = let f = given _ _ _ _ _ _ (c .before .before .before .before .before .before .before .before .before .before .before .before .before .before .before .before .pre .1) in omega arith
 
-gather-child-part-gather-end-2 : (t : ℕ) → gather-child-lts.Need-part-gather-end-2 (gather-child-calls t) (gather-child-at t) gather-child.Post
-gather-child-part-gather-end-2 t c = let f = given _ _ _ _ _ _ (c .before .before .before .before .before .before .before .before .before .before .before .pre .1) in omega arith
-
-gather-child-sub-gather-3 : (t : ℕ) → gather-child-lts.Need-sub-gather-3 (gather-child-calls t) (gather-child-at t) gather-child.Post
-gather-child-sub-gather-3 t c = let f = given _ _ _ _ _ _ (c .before .before .before .before .before .before .before .before .before .before .before .before .pre .1) in omega arith
-
-gather-child-part-gather-start-3 : (t : ℕ) → gather-child-lts.Need-part-gather-start-3 (gather-child-calls t) (gather-child-at t) gather-child.Post
-gather-child-part-gather-start-3 t c = let f = given _ _ _ _ _ _ (c .before .before .before .before .before .before .before .before .before .before .before .before .pre .1) in omega arith
-
-gather-child-part-gather-end-3 : (t : ℕ) → gather-child-lts.Need-part-gather-end-3 (gather-child-calls t) (gather-child-at t) gather-child.Post
-gather-child-part-gather-end-3 t c = let f = given _ _ _ _ _ _ (c .before .before .before .before .before .before .before .before .before .before .before .before .pre .1) in omega arith
-
-gather-child-add-gather : (t : ℕ) → gather-child-lts.Need-add-gather (gather-child-calls t) (gather-child-at t) gather-child.Post
-gather-child-add-gather t c = let f = given _ _ _ _ _ _ (c .before .before .before .before .before .before .before .before .before .before .before .before .before .pre .1) in omega arith
-
-gather-child-gather-requires : (t : ℕ) → gather-child-lts.Need-gather-requires (gather-child-calls t) (gather-child-at t) gather-child.Post
-gather-child-gather-requires t c κs = let s = c .before .before .before .before .before .before .before .before .before .before .before .before .before .before .before in let f = given _ _ _ _ _ _ (s .pre .1) in (omega (arith, s .pre .0, f .tail-long), kids-given (s .args .words .now) (s .args .rows .now) (s .args .marks .now) (s .args .base) (s .args .pairs .now) (s .args .triples .now) (sym (c .before .before .before .before .before .before .before .before .flag .ensures) ∙ c .before .before .before .before .before .before .before .if1 .left) (sym (c .before .before .before .before .before .before .flag2 .ensures) ∙ c .before .before .before .before .before .if2 .taken) (s .pre .1))
-
-gather-child-shared-slice-read-move-records :
-    (t : ℕ) → gather-child-lts.Need-shared-slice-read-move-records (gather-child-calls t) (gather-child-at t) gather-child.Post
-gather-child-shared-slice-read-move-records t c = let f = given _ _ _ _ _ _ (c .before .before .before .before .before .before .before .before .before .before .before .before .before .before .before .before .before .before .before .before .before .before .pre .1) in omega arith
-
-gather-child-shared-slice-read-move-records-2 :
-    (t : ℕ) → gather-child-lts.Need-shared-slice-read-move-records-2 (gather-child-calls t) (gather-child-at t) gather-child.Post
-gather-child-shared-slice-read-move-records-2 t c = let f = given _ _ _ _ _ _ (c .before .before .before .before .before .before .before .before .before .before .before .before .before .before .before .before .before .before .before .before .before .before .before .pre .1) in omega arith
-
-gather-child-move-records-requires : (t : ℕ) → gather-child-lts.Need-move-records-requires (gather-child-calls t) (gather-child-at t) gather-child.Post
-gather-child-move-records-requires t c κs = let s = c .before .before .before .before .before .before .before .before .before .before .before .before .before .before .before .before .before .before .before .before .before .before .before in moved-room (s .args .words .now) (s .args .rows .now) (s .args .marks .now) (s .args .base) (s .args .pairs .now) (s .args .triples .now) _ _ _ (sym (c .before .before .before .before .before .before .before .before .before .before .before .before .before .before .before .before .flag .ensures) ∙ c .before .before .before .before .before .before .before .before .before .before .before .before .before .before .before .if1 .left) (sym (c .before .before .before .before .before .before .before .before .before .before .before .before .before .before .flag2 .ensures) ∙ c .before .before .before .before .before .before .before .before .before .before .before .before .before .if2 .taken) (s .pre .1) (c .before .before .before .before .before .before .before .gather .ensures) (omega (arith, c .before .before .before .before .before .before .before .gather .kept))
+gather-child-put-record-requires : (t : ℕ) → gather-child-lts.Need-put-record-requires (gather-child-calls t) (gather-child-at t) gather-child.Post
+gather-child-put-record-requires t c κs = let s = c .before .before .before .before .before .before .before .before .before .before .before .before .before .before .before .before in one-room (s .args .words .now) (s .args .rows .now) (s .args .marks .now) (s .args .base) (s .args .pairs .now) (s .args .triples .now) (sym (c .before .before .before .before .before .before .before .before .before .flag .ensures) ∙ c .before .before .before .before .before .before .before .before .if1 .left) (sym (c .before .before .before .before .before .before .before .flag2 .ensures) ∙ c .before .before .before .before .before .before .if2 .taken) (s .pre .1)
 
 gather-child-same-length-3 : (t : ℕ) → gather-child-lts.Need-same-length-3 (gather-child-calls t) (gather-child-at t) gather-child.Post
-gather-child-same-length-3 t c = let f = given _ _ _ _ _ _ (c .before .before .before .before .before .before .before .before .before .before .before .before .before .before .before .before .before .before .before .before .before .before .before .before .before .before .pre .1) in omega arith
+gather-child-same-length-3 t c = let f = given _ _ _ _ _ _ (c .before .before .before .before .before .before .before .before .before .before .before .before .before .before .before .before .before .before .before .before .before .pre .1) in omega arith
 
 gather-child-same-length-4 : (t : ℕ) → gather-child-lts.Need-same-length-4 (gather-child-calls t) (gather-child-at t) gather-child.Post
-gather-child-same-length-4 t c = let f = given _ _ _ _ _ _ (c .before .before .before .before .before .before .before .before .before .before .before .before .before .before .before .before .before .before .before .before .before .before .before .before .before .before .pre .1) in omega arith
+gather-child-same-length-4 t c = let f = given _ _ _ _ _ _ (c .before .before .before .before .before .before .before .before .before .before .before .before .before .before .before .before .before .before .before .before .before .pre .1) in omega arith
 
 gather-child-returns-2 : (t : ℕ) → gather-child-lts.Need-returns-2 (gather-child-calls t) (gather-child-at t) gather-child.Post
-gather-child-returns-2 t c = let s = c .before .before .before .before .before .before .before .before .before .before .before .before .before .before .before .before .before .before .before .before .before .before .before .before .before .before in laid-gathered (s .args .words .now) (s .args .rows .now) (s .args .marks .now) (s .args .base) _ (s .args .pairs .now) (s .args .triples .now) _ _ _ (sym (c .before .before .before .before .before .before .before .before .before .before .before .before .before .before .before .before .before .before .before .flag .ensures) ∙ c .before .before .before .before .before .before .before .before .before .before .before .before .before .before .before .before .before .before .if1 .left) (sym (c .before .before .before .before .before .before .before .before .before .before .before .before .before .before .before .before .before .flag2 .ensures) ∙ c .before .before .before .before .before .before .before .before .before .before .before .before .before .before .before .before .if2 .taken) (c .before .before .before .before .before .before .before .before .before .before .gather .ensures) (c .before .before .move-records .ensures)
+gather-child-returns-2 t c = let s = c .before .before .before .before .before .before .before .before .before .before .before .before .before .before .before .before .before .before .before .before .before in out-gathered (s .args .words .now) (s .args .rows .now) (s .args .marks .now) (s .args .base) (s .args .pairs .now) (s .args .triples .now) _ _ (sym (c .before .before .before .before .before .before .before .before .before .before .before .before .before .before .flag .ensures) ∙ c .before .before .before .before .before .before .before .before .before .before .before .before .before .if1 .left) (sym (c .before .before .before .before .before .before .before .before .before .before .before .before .flag2 .ensures) ∙ c .before .before .before .before .before .before .before .before .before .before .before .if2 .taken) (c .before .before .before .before .put-record .ensures)
 
 gather-child-returns-3 : (t : ℕ) → gather-child-lts.Need-returns-3 (gather-child-calls t) (gather-child-at t) gather-child.Post
 gather-child-returns-3 t c = let s = c .before .before .before .before .before .before .before .before .before .before in none-gathered (s .args .words .now) (s .args .rows .now) (s .args .marks .now) (s .args .base) (s .args .pairs .now) (s .args .triples .now) (sym (c .before .before .before .flag .ensures) ∙ c .before .before .if1 .left) (sym (c .before .flag2 .ensures) ∙ c .if2 .left)
@@ -342,16 +342,6 @@ pub +gather+gather-child-spec : {M : Type 1} → statement M
     gather-child.Post
     (gather-child-shared-slice-read-bits t)
     (gather-child-flag-requires t)
-    (gather-child-cast-t15 t)
-    (gather-child-shared-slice-read-t15 t)
-    (gather-child-shared-slice-read-put-record t)
-    (gather-child-shared-slice-read-t20 t)
-    (gather-child-shared-slice-read-put-record-2 t)
-    (gather-child-put-record-requires t)
-    (gather-child-same-length t)
-    (gather-child-same-length-2 t)
-    (gather-child-returns t)
-    (gather-child-flag-requires-2 t)
     (gather-child-sub-gather t)
     (gather-child-part-gather-start t)
     (gather-child-part-gather-end t)
@@ -366,6 +356,16 @@ pub +gather+gather-child-spec : {M : Type 1} → statement M
     (gather-child-shared-slice-read-move-records t)
     (gather-child-shared-slice-read-move-records-2 t)
     (gather-child-move-records-requires t)
+    (gather-child-same-length t)
+    (gather-child-same-length-2 t)
+    (gather-child-returns t)
+    (gather-child-flag-requires-2 t)
+    (gather-child-cast-t40 t)
+    (gather-child-shared-slice-read-t40 t)
+    (gather-child-shared-slice-read-put-record t)
+    (gather-child-shared-slice-read-t45 t)
+    (gather-child-shared-slice-read-put-record-2 t)
+    (gather-child-put-record-requires t)
     (gather-child-same-length-3 t)
     (gather-child-same-length-4 t)
     (gather-child-returns-2 t)
