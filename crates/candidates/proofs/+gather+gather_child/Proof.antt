@@ -69,7 +69,6 @@ gather-turn t c =
     let s = c .before .before .before .before .before .before .before .before .pre .1 in
     turn _ _ _ _ _ _ _ _ (s .forest) _ _ _ (ap (λ (k : ℕ). c .before .before .loop .a + k) (c .word .ensures)) (c .before .before .loop .inv .0) (c .before .before .loop .inv .1) (s .room) (c .before .before .loop .inv .4 (s .forest) (s .rows-of) (s .room)) (c .before .loop-test .taken)
 
-
 gather-loop-holds : (t : ℕ) → gather-lts.Need-loop-holds (gather-calls t) (gather-at t) gather.Post gather-Inv-loop gather-μ-loop
 gather-loop-holds t c = let s = c .before .before .before .before .before in (refl, refl, omega arith, omega arith, λ ts h r. begin (s .args .words .now) (s .args .rows .now) (s .args .marks .now) (s .args .base) (s .args .pairs .now) (s .args .triples .now) ts h)
 
