@@ -1,0 +1,2 @@
+pub mod Discharged
+pub mod Claims

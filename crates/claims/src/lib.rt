@@ -1,0 +1,2 @@
+// Demand 3 of the public calls, with nothing left to suppose.
+pub const DEMAND: u32 = 3;
