@@ -1,0 +1,12 @@
+pub mod Edited
+pub mod Clearing
+pub mod PassedRows
+pub mod Clauses
+pub mod OneTree
+pub mod WidestLoop
+pub mod OnePage
+pub mod ProbeBits
+pub mod LayClauses
+pub mod Marked
+pub mod PassCodes
+pub mod Between

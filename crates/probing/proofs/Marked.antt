@@ -1,0 +1,219 @@
+-- The mark that the width pass leaves in memory is the definition's veto: the final pass on what memory holds is the final pass of the definition.
+--     CodesT, CodesF        nodes whose probe codes are below 16
+--     marked-T, marked-F    on such nodes the two passes are the same
+use mathlib.Core.Path.{_≡_, refl, sym, ap, _∙_}
+use mathlib.Core.Bool.{Bool, true, false, cond, not, _&&_}
+use Prim.Native.Nat.{_<_}
+use lib.Ieee.{Float}
+use Rattle.geometry.specs.Geometry.{zeroF}
+use Rattle.tree.specs.Tree.{Tree, Forest, node, none, more, mapT, mapF, rootT}
+use Rattle.tree.proofs.Laws.{mapT-node, mapF-none, mapF-more, rootT-node, rootT-map, map-mapT, map-mapF}
+use Rattle.steps.specs.Width.{isLeaf, flowOf}
+use Rattle.steps.specs.Edges.{frameOf}
+use Rattle.steps.specs.Stack.{startOf, stepJ}
+use Rattle.steps.specs.Row.{Row, Probe, noted, withCode, probeOf, isLaid, outputIn, noRow, hiddenRow, asideRow}
+use Rattle.steps.specs.Page.{Node, anyT, anyF, staying}
+use Rattle.steps.specs.Kept.{finalStands, editedNode, kept, keep, keptRow, laidBits, belowRow, zerosT, zerosF, fixT, fixF}
+use Rattle.steps.specs.Layout.{Stacked, leafLaid, blockLaid, layT, layF, askT}
+use Rattle.steps.specs.declared.Flow.{Flow}
+use Rattle.steps.specs.declared.Flow.the-variants.{Gone, Out, In}
+use Rattle.steps.specs.declared.LayoutInput.{LayoutInput}
+use Rattle.steps.specs.declared.Frame.{Frame}
+use Rattle.steps.specs.declared.Cursor.{Cursor}
+use Rattle.rows.specs.Store.{unlaid}
+use Rattle.walks.proofs.FixClauses.{fixF-more, fixT-gone, fixT-out, fixT-in}
+use Rattle.probing.specs.Passed.{passedRow, markedCell}
+use Rattle.probing.proofs.ProbeBits.{code-back, flag-0, flag-1, flag-3, flag-gone, bits-below}
+use Rattle.probing.proofs.PassedRows.{same-note}
+use Rattle.probing.proofs.LayClauses.{placedIn, placedBy, placedT, layT-leaf, layT-block, layF-more, askT-kept, askT-new}
+
+-- what the final pass takes a node for
+abbrev pub marked : Node → Node
+marked l = staying (markedCell l)
+
+-- probe codes are below 16
+unfoldable mutual
+  pub CodesT : Tree Node → Type 0
+  CodesT (node l ks) = (l .probe .code < 16) × CodesF ks
+
+  pub CodesF : Forest Node → Type 0
+  CodesF none = Unit {0}
+  CodesF (more t ts) = CodesT t × CodesF ts
+
+-- one row
+pub probe-back : (l : Node) → l .probe .code < 16 → probeOf (passedRow l) ≡ l .probe
+unfolding probeOf passedRow noted
+probe-back l h = rw (code-back (cond (l .anew) (unlaid (l .old .bits)) (l .old .bits)) (l .probe .code) h)
+
+stands-by : (q : LayoutInput) (r : Row) (p : Probe) (v : Bool) → finalStands q (noted r p (withCode (cond v (unlaid (r .bits)) (r .bits)) (p .code))) ≡ (not v && finalStands q r)
+unfolding finalStands noted isLaid
+stands-by q r p true = rw (flag-gone (r .bits) (p .code))
+stands-by q r p false = rw (flag-0 (r .bits) (p .code), flag-3 (r .bits) (p .code))
+
+-- the mark is the veto
+pub stands-marked : (q : LayoutInput) (l : Node) → (not (marked l .anew) && finalStands q (marked l .old)) ≡ (not (l .anew) && finalStands q (l .old))
+unfolding staying markedCell passedRow
+stands-marked q l = stands-by q (l .old) (l .probe) (l .anew)
+
+kept-by : (r : Row) (p : Probe) (v : Bool) → v ≡ false → noted r p (withCode (cond v (unlaid (r .bits)) (r .bits)) (p .code)) ≡ noted r p (withCode (r .bits) (p .code))
+kept-by r p v e = ap (λ (b : Bool). noted r p (withCode (cond b (unlaid (r .bits)) (r .bits)) (p .code))) e
+
+passed-kept : (l : Node) → l .anew ≡ false → passedRow l ≡ keptRow l
+unfolding passedRow keptRow
+passed-kept l e = kept-by (l .old) (l .probe) (l .anew) e
+
+kept-passed : (l : Node) → keptRow (marked l) ≡ passedRow l
+unfolding keptRow staying markedCell probeOf
+kept-passed l = same-note (passedRow l)
+
+kept-marked : (l : Node) → l .anew ≡ false → keptRow (marked l) ≡ keptRow l
+kept-marked l e = kept-passed l ∙ passed-kept l e
+
+out-by : (r : Row) (p : Probe) (v : Bool) → v ≡ false → outputIn (noted r p (withCode (cond v (unlaid (r .bits)) (r .bits)) (p .code))) ≡ outputIn r
+unfolding outputIn noted
+out-by r p v e = rw (e, flag-1 (r .bits) (p .code))
+
+out-marked : (l : Node) → l .anew ≡ false → outputIn (marked l .old) ≡ outputIn (l .old)
+unfolding staying markedCell passedRow
+out-marked l e = out-by (l .old) (l .probe) (l .anew) e
+
+below-by : (r : Row) (p : Probe) (v : Bool) → p .code < 16
+    → noted (noted r p (withCode (cond v (unlaid (r .bits)) (r .bits)) (p .code))) p (laidBits (withCode (cond v (unlaid (r .bits)) (r .bits)) (p .code)) (p .code)) ≡ noted r p (laidBits (r .bits) (p .code))
+unfolding noted
+below-by r p v h = rw (bits-below (r .bits) (p .code) v h)
+
+below-passed : (l : Node) → l .probe .code < 16 → noted (passedRow l) (l .probe) (laidBits (passedRow l .bits) (l .probe .code)) ≡ noted (l .old) (l .probe) (laidBits (l .old .bits) (l .probe .code))
+unfolding passedRow noted
+below-passed l h = below-by (l .old) (l .probe) (l .anew) h
+
+below-marked : (l : Node) → l .probe .code < 16 → belowRow (marked l) ≡ belowRow l
+unfolding belowRow staying markedCell
+below-marked l h = ap (λ (p : Probe). noted (passedRow l) p (laidBits (passedRow l .bits) (p .code))) (probe-back l h) ∙ below-passed l h
+
+hidden-marked : (l : Node) → hiddenRow (marked l .old .order) ≡ hiddenRow (l .old .order)
+unfolding staying markedCell passedRow noted
+hidden-marked l = refl
+
+aside-marked : (l : Node) → asideRow (marked l .old .x) (marked l .old .y) (marked l .old .w) (marked l .old .order) ≡ asideRow (l .old .x) (l .old .y) (l .old .w) (l .old .order)
+unfolding staying markedCell passedRow noted
+aside-marked l = refl
+
+site-marked : (l : Node) → marked l .site ≡ l .site
+unfolding staying markedCell
+site-marked l = refl
+
+-- rows of zeros, and edits
+zeros-F : (ts : Forest Node) → zerosF (mapF marked ts) ≡ zerosF ts
+unfolding zerosF
+zeros-F ts = map-mapF (λ _. noRow) marked ts
+
+zeros-T : (t : Tree Node) → zerosT (mapT marked t) ≡ zerosT t
+unfolding zerosT
+zeros-T t = map-mapT (λ _. noRow) marked t
+
+edit-marked : (l : Node) → editedNode (marked l) ≡ editedNode l
+unfolding editedNode staying markedCell
+edit-marked l = refl
+
+mutual
+  unfolding anyT mapT
+
+  any-T : (t : Tree Node) → anyT editedNode (mapT marked t) ≡ anyT editedNode t
+  any-T (node l ks) = rw (edit-marked l, any-F ks)
+
+  any-F : (ts : Forest Node) → anyF editedNode (mapF marked ts) ≡ anyF editedNode ts
+  any-F none = refl
+  any-F (more t ts) = rw (any-T t, any-F ts)
+
+-- below a kept node
+fix-node : (l : Node) (ks : Forest Node) (w : Flow) → flowOf (l .site .style) ≡ w → l .probe .code < 16 → fixF (mapF marked ks) ≡ fixF ks → fixT (mapT marked (node l ks)) ≡ fixT (node l ks)
+fix-node l ks Gone e h i =
+    ap fixT (mapT-node marked l ks) ∙ fixT-gone (marked l) (mapF marked ks) (ap (λ s. flowOf (s .style)) (site-marked l) ∙ e) ∙ rw (hidden-marked l, zeros-F ks) (sym (fixT-gone l ks e))
+fix-node l ks Out e h i =
+    ap fixT (mapT-node marked l ks) ∙ fixT-out (marked l) (mapF marked ks) (ap (λ s. flowOf (s .style)) (site-marked l) ∙ e) ∙ rw (aside-marked l, zeros-F ks) (sym (fixT-out l ks e))
+fix-node l ks In e h i =
+    ap fixT (mapT-node marked l ks) ∙ fixT-in (marked l) (mapF marked ks) (ap (λ s. flowOf (s .style)) (site-marked l) ∙ e) ∙ rw (below-marked l h, i) (sym (fixT-in l ks e))
+
+mutual
+  unfolding CodesT
+
+  fix-T : (t : Tree Node) → CodesT t → fixT (mapT marked t) ≡ fixT t
+  fix-T (node l ks) h = fix-node l ks (flowOf (l .site .style)) refl (h .0) (fix-F ks (h .1))
+
+  fix-F : (ts : Forest Node) → CodesF ts → fixF (mapF marked ts) ≡ fixF ts
+  fix-F none h = rw (mapF-none marked)
+  fix-F (more t ts) h = rw (mapF-more marked t ts, fixF-more, fixF-more, fix-T t (h .0), fix-F ts (h .1))
+
+-- what is kept, and that it is as it was
+kept-node : (l : Node) (ks : Forest Node) (q : LayoutInput) → kept (mapT marked (node l ks)) q ≡ kept (node l ks) q
+unfolding kept
+kept-node l ks q =
+    let r : rootT (mapT marked (node l ks)) ≡ marked l = rootT-map marked (node l ks) ∙ ap marked (rootT-node l ks) in
+    rw (any-T (node l ks), r, rootT-node l ks) (ap (λ (b : Bool). not (anyT editedNode (node l ks)) && b) (stands-marked q l))
+
+not-anew : (a b c : Bool) → (not a && (not b && c)) ≡ true → b ≡ false
+not-anew a false c e = refl
+not-anew true true c e = sym e
+not-anew false true c e = sym e
+
+kept-new : (l : Node) (ks : Forest Node) (q : LayoutInput) → kept (node l ks) q ≡ true → l .anew ≡ false
+unfolding kept rootT
+kept-new l ks q e = not-anew (anyT editedNode (node l ks)) (l .anew) (finalStands q (l .old)) e
+
+keep-marked : (l : Node) (ks : Forest Node) → l .anew ≡ false → fixF (mapF marked ks) ≡ fixF ks → keep (mapT marked (node l ks)) ≡ keep (node l ks)
+unfolding keep
+keep-marked l ks e i = rw (mapT-node marked l ks, out-marked l e, kept-marked l e, i)
+
+ask-node : (l : Node) (ks : Forest Node) (q : LayoutInput) (b : Bool) → kept (node l ks) q ≡ b → fixF (mapF marked ks) ≡ fixF ks → layT (mapT marked (node l ks)) q zeroF ≡ layT (node l ks) q zeroF
+    → askT (mapT marked (node l ks)) q ≡ askT (node l ks) q
+ask-node l ks q true e i h = askT-kept (mapT marked (node l ks)) q (kept-node l ks q ∙ e) ∙ keep-marked l ks (kept-new l ks q e) i ∙ sym (askT-kept (node l ks) q e)
+ask-node l ks q false e i h = askT-new (mapT marked (node l ks)) q (kept-node l ks q ∙ e) ∙ h ∙ sym (askT-new (node l ks) q e)
+
+ask-of : (t : Tree Node) → CodesT t → (q : LayoutInput) → layT (mapT marked t) q zeroF ≡ layT t q zeroF → askT (mapT marked t) q ≡ askT t q
+unfolding CodesT
+ask-of (node l ks) h q i = ask-node l ks q (kept (node l ks) q) refl (fix-F ks (h .1)) i
+
+-- one node, and one child of the stack
+leaf-marked : (l : Node) (ks : Forest Node) (q : LayoutInput) → l .probe .code < 16 → leafLaid (marked l) q (mapF marked ks) ≡ leafLaid l q ks
+unfolding leafLaid staying markedCell
+leaf-marked l ks q h = rw (probe-back l h, zeros-F ks)
+
+block-marked : (l : Node) (q : LayoutInput) (f : Frame) (s : Stacked) → l .probe .code < 16 → blockLaid (marked l) q f s ≡ blockLaid l q f s
+unfolding blockLaid staying markedCell
+block-marked l q f s h = rw (probe-back l h)
+
+lay-node : (l : Node) (ks : Forest Node) (q : LayoutInput) (w : Float) (b : Bool) → isLeaf (l .site .style .kind) ≡ b → l .probe .code < 16 → ((f : Frame) (c : Cursor) → layF (mapF marked ks) f c ≡ layF ks f c)
+    → layT (mapT marked (node l ks)) q w ≡ layT (node l ks) q w
+lay-node l ks q w true e h i =
+    ap (λ t. layT t q w) (mapT-node marked l ks) ∙ layT-leaf (marked l) (mapF marked ks) q w (ap (λ s. isLeaf (s .style .kind)) (site-marked l) ∙ e) ∙ leaf-marked l ks q h ∙ sym (layT-leaf l ks q w e)
+lay-node l ks q w false e h i =
+    let f : Frame = frameOf (l .site .style) q w in
+    ap (λ t. layT t q w) (mapT-node marked l ks) ∙ layT-block (marked l) (mapF marked ks) q w (ap (λ s. isLeaf (s .style .kind)) (site-marked l) ∙ e)
+    ∙ ap (λ s. blockLaid (marked l) q (frameOf (s .style) q w) (layF (mapF marked ks) (frameOf (s .style) q w) (startOf (frameOf (s .style) q w)))) (site-marked l)
+    ∙ ap (blockLaid (marked l) q f) (i f (startOf f)) ∙ block-marked l q f (layF ks f (startOf f)) h ∙ sym (layT-block l ks q w e)
+
+root-style : (t : Tree Node) → rootT (mapT marked t) .site .style ≡ rootT t .site .style
+root-style t = ap (λ l. l .site .style) (rootT-map marked t) ∙ ap (λ s. s .style) (site-marked (rootT t))
+
+placed-by : (w : Flow) (f : Frame) (c : Cursor) (t : Tree Node) → ((q : LayoutInput) → askT (mapT marked t) q ≡ askT t q) → placedBy w f c (mapT marked t) ≡ placedBy w f c t
+unfolding placedBy placedIn
+placed-by Gone f c t h = rw (zeros-T t)
+placed-by Out f c t h = rw (zeros-T t)
+placed-by In f c t h = rw (root-style t, h (stepJ f (rootT t .site .style)))
+
+placed-of : (f : Frame) (c : Cursor) (t : Tree Node) → ((q : LayoutInput) → askT (mapT marked t) q ≡ askT t q) → placedT f c (mapT marked t) ≡ placedT f c t
+unfolding placedT
+placed-of f c t h = rw (root-style t) (placed-by (flowOf (rootT t .site .style)) f c t h)
+
+more-of : (t : Tree Node) (ts : Forest Node) (f : Frame) (c : Cursor) → placedT f c (mapT marked t) ≡ placedT f c t → ((d : Cursor) → layF (mapF marked ts) f d ≡ layF ts f d) → layF (mapF marked (more t ts)) f c ≡ layF (more t ts) f c
+more-of t ts f c h k = rw (mapF-more marked t ts, layF-more, layF-more, h, k (placedT f c t .end))
+
+mutual
+  unfolding CodesT
+
+  pub marked-T : (t : Tree Node) → CodesT t → (q : LayoutInput) (w : Float) → layT (mapT marked t) q w ≡ layT t q w
+  marked-T (node l ks) h q w = lay-node l ks q w (isLeaf (l .site .style .kind)) refl (h .0) (λ f c. marked-F ks (h .1) f c)
+
+  pub marked-F : (ts : Forest Node) → CodesF ts → (f : Frame) (c : Cursor) → layF (mapF marked ts) f c ≡ layF ts f c
+  marked-F none h f c = rw (mapF-none marked)
+  marked-F (more t ts) h f c = more-of t ts f c (placed-of f c t (λ q. ask-of t (h .0) q (marked-T t (h .0) q zeroF))) (λ d. marked-F ts (h .1) f d)

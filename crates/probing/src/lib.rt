@@ -1,0 +1,220 @@
+// The width pass, in place: probes of a container without a width, and the probe words that every row is left with.
+ghost use mathlib.Core.Path.{_≡_};
+ghost use Rattle.rows.specs.Store.{Room, Becomes, clearedRow};
+ghost use Rattle.probing.specs.Contract.{IsTree, IsForest, Rows, RestCleared, Stands, ProbedT, AnewT, WidenedT, WidestF, PassedT};
+use length::AvailableSpace;
+use steps::LayoutInput;
+use steps::ProbeInput;
+use steps::Want;
+use util::OptionF32;
+
+// No probe words in the first row.
+fn clear_first(rows: &mut [f32], marks: &mut [u32])
+    requires { ⌜ Room (now rows) (now marks) ⌝ }
+    ensures { λ _. ⌜ Becomes (now (rows .entry)) (now (marks .entry)) (now (rows .exit)) (now (marks .exit)) clearedRow ⌝ }
+{
+    rows::clear_probes(&mut rows[0..16], &mut marks[0..2]);
+}
+
+// No probe words in any row but the first.
+fn clear_rest(rows: &mut [f32], marks: &mut [u32])
+    requires { ⌜ Rows (now rows) (now marks) ⌝ }
+    ensures { λ _. ⌜ RestCleared (now (rows .entry)) (now (marks .entry)) (now (rows .exit)) (now (marks .exit)) ⌝ }
+{
+    rows::clear_probes(&mut rows[16..], &mut marks[2..]);
+}
+
+// Does the probe noted in the first row answer this one? An edit in the run of n nodes says no.
+fn stands(rows: &[f32], marks: &[u32], edits: &[u32], base: usize, n: usize, q: ProbeInput) -> bool
+    requires { ⌜ Room (now rows) (now marks) ⌝ }
+    ensures { λ v. ⌜ Stands (now (rows .entry)) (now (marks .entry)) (now (edits .entry)) base n q v ⌝ }
+{
+    if rows::any_edit(edits, base, n) {
+        return false;
+    }
+    rows::probe_stands(rows, marks, q)
+}
+
+// Step F: the largest outer width of the children.
+fn determine_content_based_container_width(
+    words: &[u32],
+    numbers: &[f32],
+    rows: &mut [f32],
+    marks: &mut [u32],
+    edits: &[u32],
+    base: usize,
+    depth: usize,
+    a: AvailableSpace,
+) -> f32
+    requires { ⌜ IsForest (now words) (now numbers) (now rows) (now marks) (now edits) base depth ⌝ }
+    ensures { λ r. ⌜ WidestF (now (words .entry)) (now (numbers .entry)) (now (rows .entry)) (now (marks .entry)) (now (edits .entry)) base a r (now (rows .exit)) (now (marks .exit)) ⌝ }
+{
+    let mut most = 0.0f32;
+    let mut i = 0usize;
+    while 4 * i < words.len() {
+        let e = i + style::word(words, i, 0) as usize;
+        let i4 = 4 * i;
+        let e4 = 4 * e;
+        let i16 = 16 * i;
+        let e16 = 16 * e;
+        let i2 = 2 * i;
+        let e2 = 2 * e;
+        most = widen(
+            &words[i4..e4],
+            numbers,
+            &mut rows[i16..e16],
+            &mut marks[i2..e2],
+            edits,
+            base + i,
+            depth,
+            a,
+            most,
+        );
+        i = e;
+    }
+    most
+}
+
+// One child: it gives nothing, its own outer width, or the answer of a probe.
+fn widen(
+    words: &[u32],
+    numbers: &[f32],
+    rows: &mut [f32],
+    marks: &mut [u32],
+    edits: &[u32],
+    base: usize,
+    depth: usize,
+    a: AvailableSpace,
+    most: f32,
+) -> f32
+    requires { ⌜ IsTree (now words) (now numbers) (now rows) (now marks) (now edits) base depth ⌝ }
+    ensures { λ r. ⌜ WidenedT (now (words .entry)) (now (numbers .entry)) (now (rows .entry)) (now (marks .entry)) (now (edits .entry)) base a most r (now (rows .exit)) (now (marks .exit)) ⌝ }
+{
+    let s = style::style_at(words, 0, numbers, base);
+    let want = widths::want_of(s, a);
+    match want {
+        Want::Nothing => {
+            rows::clear_probes(rows, marks);
+            most
+        }
+        Want::Outer(w) => {
+            rows::clear_probes(rows, marks);
+            util::f32_max(most, w)
+        }
+        Want::Probe(q) => {
+            let w = probe(words, numbers, rows, marks, edits, base, depth, q);
+            util::f32_max(most, widths::outer_width(s, a, w))
+        }
+    }
+}
+
+// A probe: the noted answer where it stands, else a new one, and its note.
+fn probe(
+    words: &[u32],
+    numbers: &[f32],
+    rows: &mut [f32],
+    marks: &mut [u32],
+    edits: &[u32],
+    base: usize,
+    depth: usize,
+    q: ProbeInput,
+) -> f32
+    requires { ⌜ IsTree (now words) (now numbers) (now rows) (now marks) (now edits) base depth ⌝ }
+    ensures { λ r. ⌜ ProbedT (now (words .entry)) (now (numbers .entry)) (now (rows .entry)) (now (marks .entry)) (now (edits .entry)) base q r (now (rows .exit)) (now (marks .exit)) ⌝ }
+{
+    let n = words.len() / 4;
+    if stands(rows, marks, edits, base, n, q) {
+        return rows[13];
+    }
+    let w = probe_anew(words, numbers, rows, marks, edits, base, depth, q);
+    rows::note_probe(rows, marks, q, w);
+    w
+}
+
+// A new answer: a leaf's width, a width that steps B and D give, else step F below.
+fn probe_anew(
+    words: &[u32],
+    numbers: &[f32],
+    rows: &mut [f32],
+    marks: &mut [u32],
+    edits: &[u32],
+    base: usize,
+    depth: usize,
+    q: ProbeInput,
+) -> f32
+    requires { ⌜ IsTree (now words) (now numbers) (now rows) (now marks) (now edits) base depth ⌝ }
+    ensures { λ r. ⌜ AnewT (now (words .entry)) (now (numbers .entry)) (now (rows .entry)) (now (marks .entry)) (now (edits .entry)) base q r (now (rows .exit)) (now (marks .exit)) ⌝ }
+{
+    let s = style::style_at(words, 0, numbers, base);
+    let a = q.available;
+    let kind = s.kind;
+    if widths::is_leaf(kind) {
+        let m = s.measure;
+        clear_rest(rows, marks);
+        return widths::leaf_width(m, a);
+    }
+    let known = widths::probe_known(s, q);
+    let width = known.width;
+    match width {
+        OptionF32::Some(w) => {
+            clear_rest(rows, marks);
+            w
+        }
+        OptionF32::None => {
+            let inside = widths::available_inside(s, OptionF32::None, a);
+            let most = determine_content_based_container_width(
+                &words[4..],
+                numbers,
+                &mut rows[16..],
+                &mut marks[2..],
+                edits,
+                base + 1,
+                depth - 1,
+                inside,
+            );
+            widths::width_from(s, OptionF32::None, most)
+        }
+    }
+}
+
+// The width pass of a page: the width that step F finds for the root, 0 where it is known.
+pub fn width_pass(
+    words: &[u32],
+    numbers: &[f32],
+    rows: &mut [f32],
+    marks: &mut [u32],
+    edits: &[u32],
+    q: LayoutInput,
+) -> f32
+    requires { ⌜ IsTree (now words) (now numbers) (now rows) (now marks) (now edits) 0 32 ⌝ }
+    ensures { λ r. ⌜ PassedT (now (words .entry)) (now (numbers .entry)) (now (rows .entry)) (now (marks .entry)) (now (edits .entry)) q r (now (rows .exit)) (now (marks .exit)) ⌝ }
+{
+    let s = style::style_at(words, 0, numbers, 0);
+    let parent = q.parent;
+    let asked = q.known;
+    let available = q.available;
+    let z = sizing::sizing_of(s, parent);
+    let known = sizing::known_dimensions(s, z, asked);
+    let width = known.width;
+    match width {
+        OptionF32::Some(_) => {
+            rows::clear_probes(rows, marks);
+            0.0
+        }
+        OptionF32::None => {
+            clear_first(rows, marks);
+            let inside = widths::available_inside(s, parent, available);
+            let most = determine_content_based_container_width(
+                &words[4..],
+                numbers,
+                &mut rows[16..],
+                &mut marks[2..],
+                edits,
+                1,
+                31,
+                inside,
+            );
+            widths::width_from(s, parent, most)
+        }
+    }
+}
