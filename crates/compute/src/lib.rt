@@ -44,7 +44,7 @@ fn stands(rows: &[f32], marks: &[u32], edits: &[u32], base: usize, n: usize, q: 
 }
 
 // One container: steps A to N.
-fn compute_block_layout(
+pub fn compute_block_layout(
     words: &[u32],
     numbers: &[f32],
     rows: &mut [f32],

@@ -1,0 +1,86 @@
+// The public calls: layout and relayout.
+ghost use mathlib.Core.Path.{_≡_};
+ghost use Prim.Native.Nat.{_+_, _*_, _≤_};
+ghost use lib.ListN.{length};
+ghost use Rattle.steps.specs.Scan.{lowest};
+ghost use Rattle.steps.specs.Noes.{badRow};
+ghost use Rattle.layout.specs.Public.{IsPage, Finishes, IsCells, Relays};
+use margin::NodeId;
+use steps::Answer;
+use steps::Found;
+use steps::LayoutInput;
+
+// Is one of the numbers 0-13 of row i too large?
+fn row_large(rows: &[f32], i: usize) -> bool
+    requires { ⌜ 16 * i + 16 ≤ length (now rows) ⌝ }
+    ensures { λ r. ⌜ r ≡ badRow (now (rows .entry)) i ⌝ }
+{
+    let mut k = 0usize;
+    while k < 14 {
+        if limits::too_large(rows[16 * i + k]) {
+            return true;
+        }
+        k += 1;
+    }
+    false
+}
+
+// The lowest of n rows that is too large.
+fn first_large(rows: &[f32], n: usize) -> Found
+    requires few { ⌜ n ≤ 1024 ⌝ }
+    requires long { ⌜ 16 * n ≤ length (now rows) ⌝ }
+    ensures { λ r. ⌜ r ≡ lowest (badRow (now (rows .entry))) n ⌝ }
+{
+    let mut i = 0usize;
+    while i < n {
+        if row_large(rows, i) {
+            return Found::At(NodeId(i as u32));
+        }
+        i += 1;
+    }
+    Found::Nowhere
+}
+
+// Refusal 8 with rows that turn zero, or the candidates and their count.
+fn finish_page(
+    words: &[u32],
+    rows: &mut [f32],
+    marks: &mut [u32],
+    pairs: &mut [u32],
+    triples: &mut [f32],
+) -> Answer
+    requires { ⌜ IsPage (now words) (now rows) (now marks) (now pairs) (now triples) ⌝ }
+    ensures { λ r. ⌜ Finishes (now (words .entry)) (now (rows .entry)) (now (marks .entry)) (now (pairs .entry)) (now (triples .entry)) r (now (rows .exit)) (now (marks .exit)) (now (pairs .exit)) (now (triples .exit)) ⌝ }
+{
+    let found = first_large(rows, words.len() / 4);
+    match found {
+        Found::At(i) => {
+            rows::clear(rows);
+            rows::clear_marks(marks);
+            Answer::TooLarge(i)
+        }
+        Found::Nowhere => {
+            let n = candidates::gather(&words[4..], &rows[16..], &marks[2..], 1, pairs, triples);
+            Answer::Done(n as u32)
+        }
+    }
+}
+
+// The width pass, the final pass, and the end of a page.
+fn relay(
+    words: &[u32],
+    numbers: &[f32],
+    rows: &mut [f32],
+    marks: &mut [u32],
+    edits: &[u32],
+    pairs: &mut [u32],
+    triples: &mut [f32],
+    q: LayoutInput,
+) -> Answer
+    requires { ⌜ IsCells (now words) (now numbers) (now rows) (now marks) (now edits) (now pairs) (now triples) ⌝ }
+    ensures { λ r. ⌜ Relays (now (words .entry)) (now (numbers .entry)) (now (rows .entry)) (now (marks .entry)) (now (edits .entry)) (now (pairs .entry)) (now (triples .entry)) q r (now (rows .exit)) (now (marks .exit)) (now (pairs .exit)) (now (triples .exit)) ⌝ }
+{
+    let found = probing::width_pass(words, numbers, rows, marks, edits, q);
+    let _out = compute::compute_block_layout(words, numbers, rows, marks, edits, 0, 32, q, found);
+    finish_page(words, rows, marks, pairs, triples)
+}
