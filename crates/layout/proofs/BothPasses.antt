@@ -65,7 +65,7 @@ relaid-count : (t : Tree Cell) (q : LayoutInput) → countT (relaid t q .rows) �
 relaid-count t q = same-countT (relaid t q .rows) (leftBy t q) (relaid-sizes t q) ∙ left-count t q
 
 -- of the rows before, an answer has the lengths alone
-replied-lengths : (n : ℕ) (t : Tree Row) (rs rs2 : List Float) (ms ms2 : List ℕ) (pairs : List ℕ) (triples : List Float) → length rs ≡ length rs2 → length ms ≡ length ms2 → replied n t rs ms pairs triples ≡ replied n t rs2 ms2 pairs triples
+pub replied-lengths : (n : ℕ) (t : Tree Row) (rs rs2 : List Float) (ms ms2 : List ℕ) (pairs : List ℕ) (triples : List Float) → length rs ≡ length rs2 → length ms ≡ length ms2 → replied n t rs ms pairs triples ≡ replied n t rs2 ms2 pairs triples
 unfolding replied overLimit
 replied-lengths n t rs rs2 ms ms2 pairs triples a b = go (lowest (badRow (rowsOut t)) n)
   where

@@ -1,3 +1,6 @@
 pub mod Finish
 pub mod Count
 pub mod BothPasses
+pub mod Accepted
+pub mod OldRows
+pub mod PublicCalls

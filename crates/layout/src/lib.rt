@@ -4,11 +4,13 @@ ghost use Prim.Native.Nat.{_+_, _*_, _≤_};
 ghost use lib.ListN.{length};
 ghost use Rattle.steps.specs.Scan.{lowest};
 ghost use Rattle.steps.specs.Noes.{badRow};
-ghost use Rattle.layout.specs.Public.{IsPage, Finishes, IsCells, Relays};
+ghost use Rattle.layout.specs.Public.{Replied, IsPage, Finishes, IsCells, Relays};
+ghost use Rattle.steps.specs.Results.{layoutResult, relayoutResult};
 use margin::NodeId;
 use steps::Answer;
 use steps::Found;
 use steps::LayoutInput;
+use steps::Tested;
 
 // Is one of the numbers 0-13 of row i too large?
 fn row_large(rows: &[f32], i: usize) -> bool
@@ -83,4 +85,47 @@ fn relay(
     let found = probing::width_pass(words, numbers, rows, marks, edits, q);
     let _out = compute::compute_block_layout(words, numbers, rows, marks, edits, 0, 32, q, found);
     finish_page(words, rows, marks, pairs, triples)
+}
+
+// A fresh layout of a page: the rows and candidates, or a refusal.
+pub fn layout(
+    words: &[u32],
+    numbers: &[f32],
+    rows: &mut [f32],
+    marks: &mut [u32],
+    pairs: &mut [u32],
+    triples: &mut [f32],
+    q: LayoutInput,
+) -> Answer
+    ensures { λ r. ⌜ Replied (layoutResult (now (words .entry)) (now (numbers .entry)) (now (rows .entry)) (now (marks .entry)) (now (pairs .entry)) (now (triples .entry)) q) r (now (rows .exit)) (now (marks .exit)) (now (pairs .exit)) (now (triples .exit)) ⌝ }
+{
+    let t = tables::layout_tested(words, numbers, rows, marks, pairs, triples, q);
+    match t {
+        Tested::Refuse(a) => a,
+        Tested::Pass => {
+            rows::clear(rows);
+            rows::clear_marks(marks);
+            relay(words, numbers, rows, marks, &words[..0], pairs, triples, q)
+        }
+    }
+}
+
+// A relayout from the rows as they are lent: kept rows, laid rows and candidates, or a refusal.
+pub fn relayout(
+    words: &[u32],
+    numbers: &[f32],
+    rows: &mut [f32],
+    marks: &mut [u32],
+    pairs: &mut [u32],
+    triples: &mut [f32],
+    edits: &[u32],
+    q: LayoutInput,
+) -> Answer
+    ensures { λ r. ⌜ Replied (relayoutResult (now (words .entry)) (now (numbers .entry)) (now (rows .entry)) (now (marks .entry)) (now (pairs .entry)) (now (triples .entry)) (now (edits .entry)) q) r (now (rows .exit)) (now (marks .exit)) (now (pairs .exit)) (now (triples .exit)) ⌝ }
+{
+    let t = tables::relayout_tested(words, numbers, rows, marks, pairs, triples, edits, q);
+    match t {
+        Tested::Refuse(a) => a,
+        Tested::Pass => relay(words, numbers, rows, marks, edits, pairs, triples, q),
+    }
 }

@@ -1,0 +1,143 @@
+-- What each function of the two cycles does with one tree, in plain terms.
+use mathlib.Core.Path.{_≡_, refl, sym, ap, _∙_}
+use mathlib.Core.Bool.{Bool, true, false}
+use mathlib.Core.List.{List}
+use Prim.Native.Nat.{ℕ, _+_, _-_}
+use lib.ListN.{length, take, drop}
+use lib.Ieee.{Float}
+use Rattle.geometry.specs.Geometry.{zeroF}
+use Rattle.util.specs.Math.{larger}
+use Rattle.util.specs.declared.OptionF32.{OptionF32}
+use Rattle.util.specs.declared.OptionF32.the-variants.{None, Some}
+use Rattle.util.specs.declared.OptionSize.{OptionSize}
+use Rattle.length.specs.declared.AvailableSpace.{AvailableSpace}
+use Rattle.style.specs.Style.{styleAt}
+use Rattle.style.specs.declared.Style.{Style}
+use Rattle.tree.specs.Tree.{Tree, Forest, node, rootT}
+use Rattle.tree.proofs.Laws.{rootT-node}
+use Rattle.steps.specs.Width.{isLeaf, flowOf, stepF, outerWidth, leafWidth}
+use Rattle.steps.specs.Edges.{frameOf}
+use Rattle.steps.specs.Stack.{startOf, itemOf, stepJ, stepped, pastAside, pastHidden}
+use Rattle.steps.specs.Height.{finished, leafOutput}
+use Rattle.steps.specs.Page.{Site}
+use Rattle.steps.specs.Probe.{probeKnown, spaceIn, widthFrom}
+use Rattle.steps.specs.declared.Flow.{Flow}
+use Rattle.steps.specs.declared.Flow.the-variants.{Gone, Out, In}
+use Rattle.steps.specs.declared.Want.{Want}
+use Rattle.steps.specs.declared.Want.the-variants.{Nothing, Outer}
+use Rattle.steps.specs.declared.Want.the-variants as want
+use Rattle.steps.specs.declared.ProbeInput.{ProbeInput}
+use Rattle.steps.specs.declared.LayoutInput.{LayoutInput}
+use Rattle.steps.specs.declared.LayoutOutput.{LayoutOutput}
+use Rattle.steps.specs.declared.BlockItem.{BlockItem}
+use Rattle.steps.specs.declared.Finished.{Finished}
+use Rattle.steps.specs.declared.Frame.{Frame}
+use Rattle.steps.specs.declared.Cursor.{Cursor}
+use Rattle.measure.specs.Dry.{widthBy, widthT, widthF, widenBy, widened, sizeT, sizeF, pastBy, pastT, foundBy, foundT}
+use Rattle.measure.specs.Contract.{SitesT, Width, Widened, Widest, Measured, Passed, Stacked, Found}
+use Rattle.measure.proofs.Sites.{root-style, kids-of}
+use Rattle.measure.proofs.DryClauses.{widthT-leaf, widthT-block, sizeT-leaf, sizeT-block}
+
+module _ (ws : List ℕ) (xs : List Float) (b : ℕ) (s : Style) (hs : s ≡ styleAt ws 0 xs b) where
+  style-of : (l : Site) (ks : Forest Site) → SitesT ws xs b (node l ks) → s ≡ l .style
+  style-of l ks h = hs ∙ root-style ws xs b l ks h
+
+  pub root-of : (l : Site) (ks : Forest Site) → SitesT ws xs b (node l ks) → rootT (node l ks) .style ≡ s
+  root-of l ks h = ap (λ (z : Site). z .style) (rootT-node l ks) ∙ sym (style-of l ks h)
+
+  kind-of : (l : Site) (ks : Forest Site) (v : Bool) → SitesT ws xs b (node l ks) → isLeaf (s .kind) ≡ v → isLeaf (l .style .kind) ≡ v
+  kind-of l ks v h e = ap (λ (z : Style). isLeaf (z .kind)) (sym (style-of l ks h)) ∙ e
+
+  -- ---- a probe
+  pub leaf-width : (q : ProbeInput) (r : Float) → isLeaf (s .kind) ≡ true → r ≡ leafWidth (s .measure) (q .available) → Width ws xs b q r
+  leaf-width q r e hr (node l ks) h = hr ∙ ap (λ (z : Style). leafWidth (z .measure) (q .available)) (style-of l ks h) ∙ sym (widthT-leaf l ks q (kind-of l ks true h e))
+
+  width-by : (q : ProbeInput) (known : OptionSize) (o : OptionF32) (l : Site) (ks : Forest Site) → SitesT ws xs b (node l ks) → isLeaf (s .kind) ≡ false → known ≡ probeKnown s q → known .width ≡ o
+      → widthT (node l ks) q ≡ widthBy s o (widthF ks (spaceIn s None (q .available)) zeroF)
+  width-by q known o l ks h e hk ho =
+      let st = sym (style-of l ks h) in
+      let ko : probeKnown s q .width ≡ o = ap (λ (z : OptionSize). z .width) (sym hk) ∙ ho in
+      widthT-block l ks q (kind-of l ks false h e) ∙ ap (λ (z : Style). widthBy z (probeKnown z q .width) (widthF ks (spaceIn z None (q .available)) zeroF)) st
+      ∙ ap (λ (z : OptionF32). widthBy s z (widthF ks (spaceIn s None (q .available)) zeroF)) ko
+
+  pub known-width : (q : ProbeInput) (known : OptionSize) (w : Float) → isLeaf (s .kind) ≡ false → known ≡ probeKnown s q → known .width ≡ Some w → Width ws xs b q w
+  unfolding widthBy
+  known-width q known w e hk ho (node l ks) h = sym (width-by q known (Some w) l ks h e hk ho)
+
+  pub inner-width : (q : ProbeInput) (known : OptionSize) (room : AvailableSpace) (most r : Float) → isLeaf (s .kind) ≡ false → known ≡ probeKnown s q → known .width ≡ None → room ≡ spaceIn s None (q .available)
+      → Widest (take (length ws - 4) (drop 4 ws)) xs (b + 1) room most → r ≡ widthFrom s None most → Width ws xs b q r
+  unfolding widthBy
+  inner-width q known room most r e hk ho hroom hm hr (node l ks) h =
+      let m : most ≡ widthF ks (spaceIn s None (q .available)) zeroF = hm ks (kids-of ws xs b l ks h) ∙ ap (λ (z : AvailableSpace). widthF ks z zeroF) hroom in
+      hr ∙ ap (widthFrom s None) m ∙ sym (width-by q known None l ks h e hk ho)
+
+  -- ---- a child of step F
+  module _ (a : AvailableSpace) (m : Float) (w : Want) (hw : w ≡ stepF s a) where
+    widened-of : (l : Site) (ks : Forest Site) (v : Want) → SitesT ws xs b (node l ks) → w ≡ v → widened (node l ks) a m ≡ widenBy v (node l ks) a m
+    unfolding widened
+    widened-of l ks v h e = ap (λ (z : Want). widenBy z (node l ks) a m) (ap (λ (z : Style). stepF z a) (root-of l ks h) ∙ sym hw ∙ e)
+
+    pub nothing-widened : w ≡ Nothing → Widened ws xs b a m m
+    unfolding widenBy
+    nothing-widened e (node l ks) h = sym (widened-of l ks Nothing h e)
+
+    pub outer-widened : (o r : Float) → w ≡ Outer o → r ≡ larger m o → Widened ws xs b a m r
+    unfolding widenBy
+    outer-widened o r e hr (node l ks) h = hr ∙ sym (widened-of l ks (Outer o) h e)
+
+    pub probe-widened : (q : ProbeInput) (v o r : Float) → w ≡ want.Probe q → Width ws xs b q v → o ≡ outerWidth s a v → r ≡ larger m o → Widened ws xs b a m r
+    unfolding widenBy
+    probe-widened q v o r e hv ho hr (node l ks) h =
+        let oo : o ≡ outerWidth (rootT (node l ks) .style) a (widthT (node l ks) q) = ho ∙ ap (outerWidth s a) (hv (node l ks) h) ∙ ap (λ (z : Style). outerWidth z a (widthT (node l ks) q)) (sym (root-of l ks h)) in
+        hr ∙ ap (larger m) oo ∙ sym (widened-of l ks (want.Probe q) h e)
+
+  -- ---- the final pass
+  pub leaf-measured : (q : LayoutInput) (found : Float) (r : LayoutOutput) → isLeaf (s .kind) ≡ true → r ≡ leafOutput (s .measure) q → Measured ws xs b q found r
+  leaf-measured q found r e hr (node l ks) h = hr ∙ ap (λ (z : Style). leafOutput (z .measure) q) (style-of l ks h) ∙ sym (sizeT-leaf l ks q found (kind-of l ks true h e))
+
+  pub block-measured : (q : LayoutInput) (found : Float) (f : Frame) (end : Cursor) (d : Finished) → isLeaf (s .kind) ≡ false → f ≡ frameOf s q found → Stacked (take (length ws - 4) (drop 4 ws)) xs (b + 1) f end
+      → d ≡ finished s q f end → Measured ws xs b q found (d .output)
+  block-measured q found f end d e hf he hd (node l ks) h =
+      let st = style-of l ks h in
+      let ee : end ≡ sizeF ks f (startOf f) = he ks (kids-of ws xs b l ks h) in
+      ap (λ (z : Finished). z .output) hd ∙ ap (λ (z : Cursor). finished s q f z .output) ee ∙ ap (λ (z : Frame). finished s q z (sizeF ks z (startOf z)) .output) hf
+      ∙ ap (λ (z : Style). finished z q (frameOf z q found) (sizeF ks (frameOf z q found) (startOf (frameOf z q found))) .output) st
+      ∙ sym (sizeT-block l ks q found (kind-of l ks false h e))
+
+  -- ---- a child of the stack
+  module _ (f : Frame) (c : Cursor) (flow : Flow) (hf : flow ≡ flowOf s) where
+    past-of : (l : Site) (ks : Forest Site) (v : Flow) → SitesT ws xs b (node l ks) → flow ≡ v → pastT f c (node l ks) ≡ pastBy v f c (node l ks)
+    unfolding pastT
+    past-of l ks v h e = ap (λ (z : Flow). pastBy z f c (node l ks)) (ap flowOf (root-of l ks h) ∙ sym hf ∙ e)
+
+    pub gone-passed : (r : Cursor) → flow ≡ Gone → r ≡ pastHidden c → Passed ws xs b f c r
+    unfolding pastBy
+    gone-passed r e hr (node l ks) h = hr ∙ sym (past-of l ks Gone h e)
+
+    pub out-passed : (r : Cursor) → flow ≡ Out → r ≡ pastAside c → Passed ws xs b f c r
+    unfolding pastBy
+    out-passed r e hr (node l ks) h = hr ∙ sym (past-of l ks Out h e)
+
+    pub in-passed : (q : LayoutInput) (o : LayoutOutput) (i : BlockItem) (r : Cursor) → flow ≡ In → q ≡ stepJ f s → Measured ws xs b q zeroF o → i ≡ itemOf f s → r ≡ stepped f c i o → Passed ws xs b f c r
+    unfolding pastBy
+    in-passed q o i r e hq ho hi hr (node l ks) h =
+        let t : Tree Site = node l ks in
+        let st = sym (root-of l ks h) in
+        let oo : o ≡ sizeT t (stepJ f (rootT t .style)) zeroF = ho t h ∙ ap (λ (z : LayoutInput). sizeT t z zeroF) (hq ∙ ap (stepJ f) st) in
+        hr ∙ ap (λ (z : BlockItem). stepped f c z o) (hi ∙ ap (itemOf f) st) ∙ ap (stepped f c (itemOf f (rootT t .style))) oo ∙ sym (past-of l ks In h e)
+
+  -- ---- the width pass at the root
+  root-found : (l : Site) (ks : Forest Site) (q : LayoutInput) (o : OptionF32) → foundT (node l ks) q o ≡ foundBy (l .style) (q .parent) o (widthF ks (spaceIn (l .style) (q .parent) (q .available)) zeroF)
+  unfolding foundT
+  root-found l ks q o = refl
+
+  pub inner-found : (q : LayoutInput) (room : AvailableSpace) (most r : Float) → room ≡ spaceIn s (q .parent) (q .available) → Widest (take (length ws - 4) (drop 4 ws)) xs (b + 1) room most → r ≡ widthFrom s (q .parent) most
+      → (t : Tree Site) → SitesT ws xs b t → r ≡ foundT t q None
+  unfolding foundBy
+  inner-found q room most r hroom hm hr (node l ks) h =
+      let m : most ≡ widthF ks (spaceIn s (q .parent) (q .available)) zeroF = hm ks (kids-of ws xs b l ks h) ∙ ap (λ (z : AvailableSpace). widthF ks z zeroF) hroom in
+      hr ∙ ap (widthFrom s (q .parent)) m ∙ ap (λ (z : Style). widthFrom z (q .parent) (widthF ks (spaceIn z (q .parent) (q .available)) zeroF)) (style-of l ks h) ∙ sym (root-found l ks q None)
+
+pub known-found : (ws : List ℕ) (xs : List Float) (q : LayoutInput) (w r : Float) → r ≡ zeroF → Found ws xs q (Some w) r
+unfolding foundT foundBy
+known-found ws xs q w r e (node l ks) h = e

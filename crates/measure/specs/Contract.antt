@@ -1,0 +1,78 @@
+-- What the functions of the two cycles promise: an answer for every tree that has these words.
+use mathlib.Core.Path.{_≡_}
+use mathlib.Core.List.{List, []}
+use Prim.Native.Nat.{ℕ, _+_, _*_, _≤_}
+use lib.ListN.{length}
+use lib.Ieee.{Float}
+use Rattle.geometry.specs.Geometry.{zeroF}
+use Rattle.geometry.specs.declared.Size.{Size}
+use Rattle.util.specs.declared.OptionF32.{OptionF32}
+use Rattle.length.specs.declared.AvailableSpace.{AvailableSpace}
+use Rattle.tree.specs.Tree.{Tree, Forest, countT, countF, depthT, depthF, flatT, flatF}
+use Rattle.tree.specs.Table.{entryOf, from}
+use Rattle.steps.specs.Stack.{startOf}
+use Rattle.steps.specs.Page.{Site, siteAt}
+use Rattle.steps.specs.Results.{stepG, widthKnown, sizeOf}
+use Rattle.steps.specs.declared.ProbeInput.{ProbeInput}
+use Rattle.steps.specs.declared.LayoutInput.{LayoutInput}
+use Rattle.steps.specs.declared.LayoutOutput.{LayoutOutput}
+use Rattle.steps.specs.declared.RequestedAxis.{RequestedAxis}
+use Rattle.steps.specs.declared.Frame.{Frame}
+use Rattle.steps.specs.declared.Cursor.{Cursor}
+use Rattle.measure.specs.Dry.{widthT, widthF, widened, sizeT, sizeF, pastT, foundT, restT}
+
+-- these words are the tree's, whose first node has the number b
+pub record SitesT (ws : List ℕ) (xs : List Float) (b : ℕ) (t : Tree Site) : Type 0 where
+  pub words-long : length ws ≡ 4 * countT t
+  pub sites-are : from (siteAt ws xs [] b) 0 (countT t) ≡ flatT entryOf t
+
+pub record SitesF (ws : List ℕ) (xs : List Float) (b : ℕ) (ts : Forest Site) : Type 0 where
+  pub words-long : length ws ≡ 4 * countF ts
+  pub sites-are : from (siteAt ws xs [] b) 0 (countF ts) ≡ flatF entryOf ts
+
+-- some tree has them; no deeper than `depth`, and its numbers are a page's
+pub record IsTree (ws : List ℕ) (xs : List Float) (b depth : ℕ) : Type 0 where
+  pub tree : Tree Site
+  pub sites : SitesT ws xs b tree
+  pub deep : depthT tree ≤ depth
+  pub fit : b + countT tree ≤ 1024
+
+pub record IsForest (ws : List ℕ) (xs : List Float) (b depth : ℕ) : Type 0 where
+  pub forest : Forest Site
+  pub sites : SitesF ws xs b forest
+  pub deep : depthF forest ≤ depth
+  pub fit : b + countF forest ≤ 1024
+
+abbrev pub Width : List ℕ → List Float → ℕ → ProbeInput → Float → Type 0
+Width ws xs b q r = (t : Tree Site) → SitesT ws xs b t → r ≡ widthT t q
+
+abbrev pub Widened : List ℕ → List Float → ℕ → AvailableSpace → Float → Float → Type 0
+Widened ws xs b a m r = (t : Tree Site) → SitesT ws xs b t → r ≡ widened t a m
+
+abbrev pub Widest : List ℕ → List Float → ℕ → AvailableSpace → Float → Type 0
+Widest ws xs b a r = (ts : Forest Site) → SitesF ws xs b ts → r ≡ widthF ts a zeroF
+
+abbrev pub Measured : List ℕ → List Float → ℕ → LayoutInput → Float → LayoutOutput → Type 0
+Measured ws xs b q found r = (t : Tree Site) → SitesT ws xs b t → r ≡ sizeT t q found
+
+abbrev pub Passed : List ℕ → List Float → ℕ → Frame → Cursor → Cursor → Type 0
+Passed ws xs b f c r = (t : Tree Site) → SitesT ws xs b t → r ≡ pastT f c t
+
+abbrev pub Stacked : List ℕ → List Float → ℕ → Frame → Cursor → Type 0
+Stacked ws xs b f r = (ts : Forest Site) → SitesF ws xs b ts → r ≡ sizeF ts f (startOf f)
+
+-- the page's own steps
+abbrev pub Found : List ℕ → List Float → LayoutInput → OptionF32 → Float → Type 0
+Found ws xs q width r = (t : Tree Site) → SitesT ws xs 0 t → r ≡ foundT t q width
+
+abbrev pub Whole : List ℕ → List Float → LayoutInput → RequestedAxis → Float → Float → OptionF32 → Size → Type 0
+Whole ws xs q a found width height r = (t : Tree Site) → SitesT ws xs 0 t → r ≡ stepG a width height (sizeT t q found .size)
+
+abbrev pub Rest : List ℕ → List Float → LayoutInput → RequestedAxis → Size → Type 0
+Rest ws xs q a r = (t : Tree Site) → SitesT ws xs 0 t → r ≡ restT t q a
+
+abbrev pub KnownWidth : List ℕ → List Float → LayoutInput → RequestedAxis → Float → OptionF32 → Size → Type 0
+KnownWidth ws xs q a width height r = (t : Tree Site) → SitesT ws xs 0 t → r ≡ widthKnown a width height (restT t q a)
+
+abbrev pub SizeOf : List ℕ → List Float → LayoutInput → RequestedAxis → Size → Type 0
+SizeOf ws xs q a r = (t : Tree Site) → SitesT ws xs 0 t → r ≡ sizeOf t q a

@@ -1,0 +1,284 @@
+// The size question: what a page would measure. It is lent no rows, keeps nothing and writes nothing.
+ghost use mathlib.Core.Path.{_≡_};
+ghost use Rattle.steps.specs.Stack.{Counts};
+ghost use Rattle.steps.specs.Results.{axes, sizeReply, sizeResult};
+ghost use Rattle.measure.specs.Contract.{IsTree, IsForest, Width, Widened, Widest, Measured, Passed, Stacked, Found, Whole, Rest, KnownWidth, SizeOf};
+use geometry::Size;
+use length::AvailableSpace;
+use margin::NodeId;
+use steps::Answer;
+use steps::Cursor;
+use steps::Flow;
+use steps::Frame;
+use steps::LayoutInput;
+use steps::LayoutOutput;
+use steps::ProbeInput;
+use steps::RequestedAxis;
+use steps::SizeAnswer;
+use steps::Tested;
+use steps::Want;
+use util::OptionF32;
+
+// A probe of one tree: its width alone.
+fn width_of(words: &[u32], numbers: &[f32], base: usize, depth: usize, q: ProbeInput) -> f32
+    requires { ⌜ IsTree (now words) (now numbers) base depth ⌝ }
+    ensures { λ r. ⌜ Width (now (words .entry)) (now (numbers .entry)) base q r ⌝ }
+{
+    let s = style::style_at(words, 0, numbers, base);
+    let kind = s.kind;
+    let a = q.available;
+    if widths::is_leaf(kind) {
+        let m = s.measure;
+        return widths::leaf_width(m, a);
+    }
+    let known = widths::probe_known(s, q);
+    let width = known.width;
+    match width {
+        OptionF32::Some(w) => w,
+        OptionF32::None => {
+            let room = widths::available_inside(s, OptionF32::None, a);
+            let most = widest(&words[4..], numbers, base + 1, depth - 1, room);
+            widths::width_from(s, OptionF32::None, most)
+        }
+    }
+}
+
+// One child of step F.
+fn widened(
+    words: &[u32],
+    numbers: &[f32],
+    base: usize,
+    depth: usize,
+    a: AvailableSpace,
+    most: f32,
+) -> f32
+    requires { ⌜ IsTree (now words) (now numbers) base depth ⌝ }
+    ensures { λ r. ⌜ Widened (now (words .entry)) (now (numbers .entry)) base a most r ⌝ }
+{
+    let s = style::style_at(words, 0, numbers, base);
+    let want = widths::want_of(s, a);
+    match want {
+        Want::Nothing => most,
+        Want::Outer(w) => util::f32_max(most, w),
+        Want::Probe(q) => {
+            let w = width_of(words, numbers, base, depth, q);
+            let o = widths::outer_width(s, a, w);
+            util::f32_max(most, o)
+        }
+    }
+}
+
+// Step F: the widest of the children.
+fn widest(words: &[u32], numbers: &[f32], base: usize, depth: usize, a: AvailableSpace) -> f32
+    requires { ⌜ IsForest (now words) (now numbers) base depth ⌝ }
+    ensures { λ r. ⌜ Widest (now (words .entry)) (now (numbers .entry)) base a r ⌝ }
+{
+    let mut most = 0.0;
+    let mut i = 0usize;
+    while 4 * i < words.len() {
+        let e = i + style::word(words, i, 0) as usize;
+        let i4 = 4 * i;
+        let e4 = 4 * e;
+        most = widened(&words[i4..e4], numbers, base + i, depth, a, most);
+        i = e;
+    }
+    most
+}
+
+// One container of the final pass: its answer alone.
+fn measured(
+    words: &[u32],
+    numbers: &[f32],
+    base: usize,
+    depth: usize,
+    q: LayoutInput,
+    found: f32,
+) -> LayoutOutput
+    requires { ⌜ IsTree (now words) (now numbers) base depth ⌝ }
+    ensures { λ r. ⌜ Measured (now (words .entry)) (now (numbers .entry)) base q found r ⌝ }
+{
+    let s = style::style_at(words, 0, numbers, base);
+    let kind = s.kind;
+    if widths::is_leaf(kind) {
+        let m = s.measure;
+        return heights::leaf_output(m, q);
+    }
+    let f = frames::frame_of(s, q, found);
+    let end = stacked(&words[4..], numbers, base + 1, depth - 1, f);
+    let d = heights::finish(s, q, f, end);
+    d.output
+}
+
+// Step J: where the stack of the children ends.
+fn stacked(words: &[u32], numbers: &[f32], base: usize, depth: usize, f: Frame) -> Cursor
+    requires { ⌜ IsForest (now words) (now numbers) base depth ⌝ }
+    ensures { λ r. ⌜ Stacked (now (words .entry)) (now (numbers .entry)) base f r ⌝ }
+{
+    let mut c = stacking::start_of(f);
+    let mut i = 0usize;
+    while 4 * i < words.len() {
+        let e = i + style::word(words, i, 0) as usize;
+        let i4 = 4 * i;
+        let e4 = 4 * e;
+        c = passed(&words[i4..e4], numbers, base + i, depth, f, c);
+        i = e;
+    }
+    c
+}
+
+// One child of the stack.
+fn passed(words: &[u32], numbers: &[f32], base: usize, depth: usize, f: Frame, c: Cursor) -> Cursor
+    requires tables { ⌜ IsTree (now words) (now numbers) base depth ⌝ }
+    requires counts { ⌜ Counts c ⌝ }
+    ensures { λ r. ⌜ Passed (now (words .entry)) (now (numbers .entry)) base f c r ⌝ }
+{
+    let s = style::style_at(words, 0, numbers, base);
+    let flow = widths::flow_of(s);
+    match flow {
+        Flow::Gone => stacking::past_hidden(c),
+        Flow::Out => stacking::past_aside(c),
+        Flow::In => {
+            let q = stacking::question_to(f, s);
+            let o = measured(words, numbers, base, depth, q, 0.0);
+            let i = stacking::item_of(f, s);
+            stacking::stepped_past(f, c, i, o)
+        }
+    }
+}
+
+fn axes(width: f32, height: f32) -> Size
+    ensures { λ r. ⌜ r ≡ axes width height ⌝ }
+{
+    Size {
+        width: width,
+        height: height,
+    }
+}
+
+// What the width pass finds for the root; it is not run where the width is known.
+fn found_width(words: &[u32], numbers: &[f32], q: LayoutInput, width: OptionF32) -> f32
+    requires { ⌜ IsTree (now words) (now numbers) 0 32 ⌝ }
+    ensures { λ r. ⌜ Found (now (words .entry)) (now (numbers .entry)) q width r ⌝ }
+{
+    match width {
+        OptionF32::Some(w) => 0.0,
+        OptionF32::None => {
+            let s = style::style_at(words, 0, numbers, 0);
+            let parent = q.parent;
+            let a = q.available;
+            let room = widths::available_inside(s, parent, a);
+            let most = widest(&words[4..], numbers, 1, 31, room);
+            widths::width_from(s, parent, most)
+        }
+    }
+}
+
+// Step G, and the whole layout where it does not answer.
+fn size_after_width(
+    words: &[u32],
+    numbers: &[f32],
+    q: LayoutInput,
+    axis: RequestedAxis,
+    found: f32,
+    width: f32,
+    height: OptionF32,
+) -> Size
+    requires { ⌜ IsTree (now words) (now numbers) 0 32 ⌝ }
+    ensures { λ r. ⌜ Whole (now (words .entry)) (now (numbers .entry)) q axis found width height r ⌝ }
+{
+    if let OptionF32::Some(h) = height {
+        return axes(width, h);
+    }
+    match axis {
+        RequestedAxis::Horizontal => axes(width, 0.0),
+        RequestedAxis::Both => {
+            let o = measured(words, numbers, 0, 32, q, found);
+            o.size
+        }
+    }
+}
+
+// Steps D, F and G.
+fn size_below(words: &[u32], numbers: &[f32], q: LayoutInput, axis: RequestedAxis) -> Size
+    requires { ⌜ IsTree (now words) (now numbers) 0 32 ⌝ }
+    ensures { λ r. ⌜ Rest (now (words .entry)) (now (numbers .entry)) q axis r ⌝ }
+{
+    let s = style::style_at(words, 0, numbers, 0);
+    let parent = q.parent;
+    let asked = q.known;
+    let z = sizing::sizing_of(s, parent);
+    let known = sizing::known_dimensions(s, z, asked);
+    let width = known.width;
+    let height = known.height;
+    let found = found_width(words, numbers, q, width);
+    let w = width.unwrap_or(found);
+    size_after_width(words, numbers, q, axis, found, w, height)
+}
+
+// Step C, with the width known.
+fn size_with_width(
+    words: &[u32],
+    numbers: &[f32],
+    q: LayoutInput,
+    axis: RequestedAxis,
+    width: f32,
+    height: OptionF32,
+) -> Size
+    requires { ⌜ IsTree (now words) (now numbers) 0 32 ⌝ }
+    ensures { λ r. ⌜ KnownWidth (now (words .entry)) (now (numbers .entry)) q axis width height r ⌝ }
+{
+    if let OptionF32::Some(h) = height {
+        return axes(width, h);
+    }
+    match axis {
+        RequestedAxis::Horizontal => axes(width, 0.0),
+        RequestedAxis::Both => size_below(words, numbers, q, axis),
+    }
+}
+
+// Step C: what is known before the aspect ratio.
+fn size_of(words: &[u32], numbers: &[f32], q: LayoutInput, axis: RequestedAxis) -> Size
+    requires { ⌜ IsTree (now words) (now numbers) 0 32 ⌝ }
+    ensures { λ r. ⌜ SizeOf (now (words .entry)) (now (numbers .entry)) q axis r ⌝ }
+{
+    let s = style::style_at(words, 0, numbers, 0);
+    let parent = q.parent;
+    let asked = q.known;
+    let z = sizing::sizing_of(s, parent);
+    let known = sizing::known_by_style(z, asked);
+    let width = known.width;
+    let height = known.height;
+    match width {
+        OptionF32::None => size_below(words, numbers, q, axis),
+        OptionF32::Some(w) => size_with_width(words, numbers, q, axis, w, height),
+    }
+}
+
+// 8: the answer alone is tested.
+fn size_reply(s: Size) -> SizeAnswer
+    ensures { λ r. ⌜ r ≡ sizeReply s ⌝ }
+{
+    if limits::too_large(s.width) {
+        return SizeAnswer::Refused(Answer::TooLarge(NodeId(0)));
+    }
+    if limits::too_large(s.height) {
+        return SizeAnswer::Refused(Answer::TooLarge(NodeId(0)));
+    }
+    SizeAnswer::Sized(s)
+}
+
+// The size of a page, or why it is refused. Nothing is asked of what is lent.
+pub fn size_question(
+    words: &[u32],
+    numbers: &[f32],
+    q: LayoutInput,
+    axis: RequestedAxis,
+) -> SizeAnswer
+    ensures { λ r. ⌜ r ≡ sizeResult (now (words .entry)) (now (numbers .entry)) q axis ⌝ }
+{
+    if let Tested::Refuse(a) = tables::size_tested(words, numbers, q) {
+        return SizeAnswer::Refused(a);
+    }
+    let s = size_of(words, numbers, q, axis);
+    size_reply(s)
+}
