@@ -1,2 +1,4 @@
 pub mod Discharged
 pub mod Claims
+pub mod Honest
+pub mod AtExit
