@@ -21,7 +21,7 @@ pub record Alike (a b : Answer) (rs rs′ : List Float) (ms ms′ cw cw′ : Lis
   pub words : cw ≡ cw′
   pub numbers : cx ≡ cx′
 
-one-reply : (r s : Reply) (a b : Answer) (rs rs′ : List Float) (ms ms′ cw cw′ : List ℕ) (cx cx′ : List Float) → r ≡ s → Replied r a rs ms cw cx → Replied s b rs′ ms′ cw′ cx′ → Alike a b rs rs′ ms ms′ cw cw′ cx cx′
+pub one-reply : (r s : Reply) (a b : Answer) (rs rs′ : List Float) (ms ms′ cw cw′ : List ℕ) (cx cx′ : List Float) → r ≡ s → Replied r a rs ms cw cx → Replied s b rs′ ms′ cw′ cx′ → Alike a b rs rs′ ms ms′ cw cw′ cx cx′
 one-reply r s a b rs rs′ ms ms′ cw cw′ cx cx′ e x y =
     record {
       answers = x .answer-is ∙ ap (λ (z : Reply). z .answer) e ∙ sym (y .answer-is);

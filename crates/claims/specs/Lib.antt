@@ -2,3 +2,4 @@ pub mod Discharged
 pub mod Claims
 pub mod Honest
 pub mod AtExit
+pub mod Outcomes
