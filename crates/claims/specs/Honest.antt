@@ -14,7 +14,8 @@ use Rattle.steps.specs.Row.{Row, rowNumbers, rowWords, isLaid, bare, hiddenRow,
 use Rattle.steps.specs.Page.{Site, Cell, Node, blank}
 use Rattle.steps.specs.Probe.{widthPass}
 use Rattle.steps.specs.Kept.{zerosT}
-use Rattle.steps.specs.Layout.{layT, layF, relaid, fresh, skip}
+use Rattle.steps.specs.Layout.{Stacked, layT, layF, relaid, fresh, skip}
+use Rattle.steps.specs.Stack.{pastHidden}
 use Rattle.steps.specs.Results.{rowsOut, marksOut}
 use Rattle.steps.specs.declared.Flow.the-variants.{Gone}
 use Rattle.steps.specs.declared.LayoutInput.{LayoutInput}
@@ -53,8 +54,9 @@ unfolding relaid
 root-at-origin t q = origin-T (widthPass t q .nodes) q (widthPass t q .found)
 
 -- a hidden child: its order, and zero in every other word of its row and of those below it
-pub hidden-child : (t : Tree Node) (ts : Forest Node) (f : Frame) (c : Cursor) → flowOf (styleT t) ≡ Gone → layF (more t ts) f c ≡ skip c t (layF ts f)
-hidden-child t ts f c e = layF-gone t ts f c e
+pub hidden-child : (t : Tree Node) (ts : Forest Node) (f : Frame) (c : Cursor) → flowOf (styleT t) ≡ Gone → layF (more t ts) f c .rows ≡ more (onRoot (λ _. hiddenRow (c .count)) (zerosT t)) (layF ts f (pastHidden c) .rows)
+unfolding skip
+hidden-child t ts f c e = ap (λ (s : Stacked). s .rows) (layF-gone t ts f c e)
 
 pub hidden-words : (n : ℕ) → (rowNumbers (hiddenRow n) ≡ replicate 16 zeroF) × (rowWords (hiddenRow n) ≡ n ∷ 0 ∷ [])
 unfolding hiddenRow bare noMargins

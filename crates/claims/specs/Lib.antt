@@ -3,4 +3,3 @@ pub mod Claims
 pub mod Honest
 pub mod AtExit
 pub mod Outcomes
-pub mod Numbers

@@ -21,7 +21,7 @@ use Rattle.steps.specs.Probe.{widthPass}
 use Rattle.steps.specs.Kept.{Laid}
 use Rattle.steps.specs.Layout.{relaid, fresh}
 use Rattle.steps.specs.Candidates.{Candidate, candidates, candidateWords, candidateNumbers}
-use Rattle.steps.specs.Noes.{badRow, layoutTested, relayoutTested, sizeTested}
+use Rattle.steps.specs.Noes.{paper, badRow, layoutTested, relayoutTested, sizeTested}
 use Rattle.steps.specs.declared.LayoutInput.{LayoutInput}
 use Rattle.steps.specs.declared.RequestedAxis.{RequestedAxis}
 use Rattle.steps.specs.declared.RequestedAxis.the-variants.{Horizontal, Both}
@@ -137,3 +137,8 @@ sizeByTest (Refuse a) r = Refused a
 -- size question: node words and numbers, the question, and which axes
 unfoldable pub sizeResult : List ℕ → List Float → LayoutInput → RequestedAxis → SizeAnswer
 sizeResult ws xs q a = sizeByTest (sizeTested ws xs q) (sizeReply (sizeOf (pageOf ws xs []) q a))
+
+-- this paper's number and place of a size answer, and its size, 0x0 if refused
+unfoldable pub sizePaper : SizeAnswer → (ℕ × ℕ) × Size
+sizePaper (Sized s) = ((0, 0), s)
+sizePaper (Refused a) = (paper a, axes zeroF zeroF)
