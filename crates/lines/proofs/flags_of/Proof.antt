@@ -1,0 +1,36 @@
+use borrow.Author.Tests.{lt-ltb, le-ltb, eq-eqb, ne-eqb}
+use Rattle.lines.specs.Lines.{flagsOf}
+use borrow.Author.Needs.{needs}
+use Rattle.lines.proofs.flags_of.Statement.{statement}
+use Rattle.lines.proofs.flags_of.Tie as tie
+use Rattle.lines.proofs.flags_of.Reads as reads
+use Rattle.lines.proofs.flags_of.Lts as lts
+
+enum-told : tie.Need-enum-told
+enum-told c = search needs
+
+enum-known-a : tie.Need-enum-known-a
+enum-known-a c = search needs
+
+enum-told-2 : tie.Need-enum-told-2
+enum-told-2 c = search needs
+
+enum-known-b : tie.Need-enum-known-b
+enum-known-b c = search needs
+
+returns : tie.Need-returns
+unfolding flagsOf
+returns c = rw (c .enum-told .given .1)
+
+returns-2 : tie.Need-returns-2
+unfolding flagsOf
+returns-2 c = rw (c .enum-told2 .given .1, c .before .before .before .a .given .1)
+
+returns-3 : tie.Need-returns-3
+unfolding flagsOf
+returns-3 c = rw (c .before .b .given .1, c .before .before .before .before .a .given .1)
+
+pub flags-of-spec : {M : Type 1} → statement M
+flags-of-spec =
+    tie.close
+    (tie.spec enum-told enum-known-a enum-told-2 enum-known-b returns returns-2 returns-3)

@@ -1,0 +1,3 @@
+pub mod BodyTurn
+pub mod HeadFits
+pub mod WholeFile

@@ -1,0 +1,2 @@
+pub mod PieceTurn
+pub mod DigitTurn
