@@ -1,0 +1,47 @@
+-- From what the calls below answer to what is answered to C.
+use mathlib.Core.Path.{_≡_, refl, sym, ap, subst, _∙_}
+use mathlib.Core.List.{List, [], _∷_}
+use Prim.Native.Nat.{ℕ}
+use lib.Ieee.{Float}
+use Rattle.geometry.specs.Geometry.{zeroF}
+use Rattle.geometry.specs.declared.Size as geometry
+use Rattle.steps.specs.Noes.{paper}
+use Rattle.steps.specs.Results.{Reply, axes, sizeResult, sizePaper}
+use Rattle.steps.specs.declared.Answer.{Answer}
+use Rattle.steps.specs.declared.Answer.the-variants.{Done}
+use Rattle.steps.specs.declared.LayoutInput.{LayoutInput}
+use Rattle.steps.specs.declared.RequestedAxis.{RequestedAxis}
+use Rattle.steps.specs.declared.SizeAnswer.{SizeAnswer}
+use Rattle.steps.specs.declared.SizeAnswer.the-variants as size
+use Rattle.layout.specs.Public.{Replied}
+use Rattle.face.specs.Answered.{Halves, Answered, Sized}
+
+-- one case of an answer
+pub of-case : {a b : Answer} {p : ℕ × ℕ} {r : ℕ} → a ≡ b → paper b ≡ p → Halves p r → Halves (paper a) r
+of-case {a} {b} {p} {r} e f h = subst (λ (q : ℕ × ℕ). Halves q r) (sym (ap paper e ∙ f)) h
+
+-- the answer packed, the memory as it was left
+pub answered : {w v : Reply} {a : Answer} {r : ℕ} {rows : List Float} {marks : List ℕ} {pairs : List ℕ} {triples : List Float} → w ≡ v → Replied w a rows marks pairs triples → Halves (paper a) r → Answered v r rows marks pairs triples
+answered {w} {v} {a} {r} {rows} {marks} {pairs} {triples} e s h =
+    subst (λ (u : Reply). Answered u r rows marks pairs triples) e
+    record {
+      answer-is = subst (λ (x : Answer). Halves (paper x) r) (s .answer-is) h;
+      rows-are = s .rows-are;
+      marks-are = s .marks-are;
+      pairs-are = s .words-are;
+      triples-are = s .numbers-are;
+    }
+
+-- the same question, put as numbers
+pub asked : (ws : List ℕ) (xs : List Float) {q k : LayoutInput} {a b : RequestedAxis} → q ≡ k → a ≡ b → sizeResult ws xs q a ≡ sizeResult ws xs k b
+asked ws xs {q} {k} {a} {b} e f = ap (λ (p : LayoutInput). sizeResult ws xs p a) e ∙ ap (sizeResult ws xs k) f
+
+-- a size that is given
+pub sized : {v : SizeAnswer} {s : geometry.Size} {r : ℕ} → v ≡ size.Sized s → Halves (paper (Done 0)) r → Sized v r (s .width ∷ s .height ∷ [])
+unfolding sizePaper paper
+sized {v} {s} {r} e h = subst (λ (u : SizeAnswer). Sized u r (s .width ∷ s .height ∷ [])) (sym e) record { answer-is = h; size-is = refl }
+
+-- a size that is refused
+pub refused : {v : SizeAnswer} {a : Answer} {r : ℕ} → v ≡ size.Refused a → Halves (paper a) r → Sized v r (zeroF ∷ zeroF ∷ [])
+unfolding sizePaper axes
+refused {v} {a} {r} e h = subst (λ (u : SizeAnswer). Sized u r (zeroF ∷ zeroF ∷ [])) (sym e) record { answer-is = h; size-is = refl }

@@ -1,0 +1,46 @@
+use Rattle.face.specs.Question.{questionOf}
+use borrow.Author.Needs.{needs}
+use Rattle.face.proofs.question.Statement.{statement}
+use Rattle.face.proofs.question.Tie as tie
+
+flag-requires : tie.Need-flag-requires
+flag-requires c κs = search needs
+
+option-requires : tie.Need-option-requires
+option-requires c κs = search needs
+
+flag-requires-2 : tie.Need-flag-requires-2
+flag-requires-2 c κs = search needs
+
+option-requires-2 : tie.Need-option-requires-2
+option-requires-2 c κs = search needs
+
+code-requires : tie.Need-code-requires
+code-requires c κs = search needs
+
+available-of-requires : tie.Need-available-of-requires
+available-of-requires c κs = search needs
+
+flag-requires-3 : tie.Need-flag-requires-3
+flag-requires-3 c κs = search needs
+
+flag-requires-4 : tie.Need-flag-requires-4
+flag-requires-4 c κs = search needs
+
+returns : tie.Need-returns
+unfolding questionOf
+returns c = rw (c .flag4 .ensures, c .before .flag3 .ensures, c .before .before .available-of .ensures, c .before .before .before .code .ensures, c .before .before .before .before .option2 .ensures, c .before .before .before .before .before .flag2 .ensures, c .before .before .before .before .before .before .option .ensures, c .before .before .before .before .before .before .before .flag .ensures)
+
+pub question-spec : {M : Type 1} → statement M
+question-spec =
+    tie.close
+    (tie.spec
+    flag-requires
+    option-requires
+    flag-requires-2
+    option-requires-2
+    code-requires
+    available-of-requires
+    flag-requires-3
+    flag-requires-4
+    returns)

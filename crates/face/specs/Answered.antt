@@ -1,0 +1,31 @@
+-- What the calls answer to C: a word of two halves, and the memory that was lent.
+use mathlib.Core.Path.{_≡_}
+use mathlib.Core.List.{List, [], _∷_}
+use Prim.Native.Nat.{ℕ, _/_, _%_, _^_}
+use native.Mathlib.Omega.{arith}
+use lib.Ieee.{Float}
+use Rattle.steps.specs.Noes.{paper}
+use Rattle.steps.specs.Results.{Reply, sizePaper}
+use Rattle.steps.specs.declared.SizeAnswer.{SizeAnswer}
+
+-- the upper half is 01's number of an answer, the lower half its place
+pub record Halves (p : ℕ × ℕ) (r : ℕ) : Type 0 where
+  pub number-is : r / 2 ^ 32 ≡ p .0
+  pub place-is : r % 2 ^ 32 ≡ p .1
+
+-- the halves leave no choice
+pub one-word : (p : ℕ × ℕ) (r s : ℕ) → Halves p r → Halves p s → r ≡ s
+one-word p r s h k = omega (arith, h .number-is, h .place-is, k .number-is, k .place-is)
+
+-- a layout or a relayout: the answer and every lent word
+pub record Answered (want : Reply) (r : ℕ) (rows : List Float) (marks : List ℕ) (pairs : List ℕ) (triples : List Float) : Type 0 where
+  pub answer-is : Halves (paper (want .answer)) r
+  pub rows-are : rows ≡ want .rows
+  pub marks-are : marks ≡ want .marks
+  pub pairs-are : pairs ≡ want .words
+  pub triples-are : triples ≡ want .numbers
+
+-- a size question: the answer, and width and height
+pub record Sized (want : SizeAnswer) (r : ℕ) (size : List Float) : Type 0 where
+  pub answer-is : Halves (sizePaper want .0) r
+  pub size-is : size ≡ sizePaper want .1 .width ∷ sizePaper want .1 .height ∷ []

@@ -1,0 +1,166 @@
+// The public calls for C: plain numbers and slices in, one word of two halves out.
+ghost use mathlib.Core.Path.{_≡_};
+ghost use Prim.Native.Nat.{_≤_};
+ghost use Rattle.steps.specs.Noes.{paper};
+ghost use Rattle.steps.specs.Results.{layoutResult, relayoutResult, sizeResult, sizePaper};
+ghost use Rattle.face.specs.Question.{given, availableOf, questionOf, axisOf};
+ghost use Rattle.face.specs.Answered.{Halves, Answered, Sized};
+use length::AvailableSpace;
+use steps::Answer;
+use steps::LayoutInput;
+use steps::RequestedAxis;
+use steps::SizeAnswer;
+use style::code;
+use style::flag;
+use util::OptionF32;
+use util::OptionSize;
+
+// A number that is given, or none.
+fn option(b: bool, x: f32) -> OptionF32
+    ensures { λ r. ⌜ r ≡ given b x ⌝ }
+{
+    if b {
+        OptionF32::Some(x)
+    } else {
+        OptionF32::None
+    }
+}
+
+// The available width by its kind.
+fn available_of(k: u32, x: f32) -> AvailableSpace
+    ensures { λ r. ⌜ r ≡ availableOf k x ⌝ }
+{
+    match k {
+        0 => AvailableSpace::MaxContent,
+        1 => AvailableSpace::Definite(x),
+        2 => AvailableSpace::MinContent,
+        _ => AvailableSpace::MaxContent,
+    }
+}
+
+// The question that four floats and the bits of a word ask.
+fn question(width: f32, height: f32, parent: f32, available: f32, how: u32) -> LayoutInput
+    ensures { λ r. ⌜ r ≡ questionOf width height parent available how ⌝ }
+{
+    let known = OptionSize {
+        width: option(flag(how, 0), width),
+        height: option(flag(how, 1), height),
+    };
+    LayoutInput {
+        known,
+        parent: OptionF32::Some(parent),
+        available: available_of(code(how, 1), available),
+        start: flag(how, 4),
+        end: flag(how, 5),
+        nested: false,
+    }
+}
+
+// Width only, or both.
+fn axis(how: u32) -> RequestedAxis
+    ensures { λ r. ⌜ r ≡ axisOf how ⌝ }
+{
+    if flag(how, 6) {
+        RequestedAxis::Horizontal
+    } else {
+        RequestedAxis::Both
+    }
+}
+
+// A number and a place as the two halves of a word.
+fn halves(number: u64, place: u32) -> u64
+    requires { ⌜ number ≤ 8 ⌝ }
+    ensures { λ r. ⌜ Halves (number, place) r ⌝ }
+{
+    number * 0x1_0000_0000 + place as u64
+}
+
+// An answer as 01's number and place.
+fn packed(a: Answer) -> u64
+    ensures { λ r. ⌜ Halves (paper a) r ⌝ }
+{
+    match a {
+        Answer::Done(n) => halves(0, n),
+        Answer::Lengths => halves(1, 0),
+        Answer::Tree(i) => halves(2, i.0),
+        Answer::Codes(i) => halves(3, i.0),
+        Answer::Numbers(i) => halves(4, i),
+        Answer::Room => halves(5, 0),
+        Answer::Edits(k) => halves(6, k),
+        Answer::NotLaid => halves(7, 0),
+        Answer::TooLarge(i) => halves(8, i.0),
+    }
+}
+
+// A fresh layout of a page.
+#[no_mangle]
+pub extern "C" fn mearrasot_layout(
+    words: &[u32],
+    numbers: &[f32],
+    rows: &mut [f32],
+    marks: &mut [u32],
+    pairs: &mut [u32],
+    triples: &mut [f32],
+    width: f32,
+    height: f32,
+    parent: f32,
+    available: f32,
+    how: u32,
+) -> u64
+    ensures { λ r. ⌜ Answered (layoutResult (now (words .entry)) (now (numbers .entry)) (now (rows .entry)) (now (marks .entry)) (now (pairs .entry)) (now (triples .entry)) (questionOf width height parent available how)) r (now (rows .exit)) (now (marks .exit)) (now (pairs .exit)) (now (triples .exit)) ⌝ }
+{
+    let q = question(width, height, parent, available, how);
+    let a = layout::layout(words, numbers, rows, marks, pairs, triples, q);
+    packed(a)
+}
+
+// A relayout from the rows as they are lent.
+#[no_mangle]
+pub extern "C" fn mearrasot_relayout(
+    words: &[u32],
+    numbers: &[f32],
+    rows: &mut [f32],
+    marks: &mut [u32],
+    pairs: &mut [u32],
+    triples: &mut [f32],
+    edits: &[u32],
+    width: f32,
+    height: f32,
+    parent: f32,
+    available: f32,
+    how: u32,
+) -> u64
+    ensures { λ r. ⌜ Answered (relayoutResult (now (words .entry)) (now (numbers .entry)) (now (rows .entry)) (now (marks .entry)) (now (pairs .entry)) (now (triples .entry)) (now (edits .entry)) (questionOf width height parent available how)) r (now (rows .exit)) (now (marks .exit)) (now (pairs .exit)) (now (triples .exit)) ⌝ }
+{
+    let q = question(width, height, parent, available, how);
+    let a = layout::relayout(words, numbers, rows, marks, pairs, triples, edits, q);
+    packed(a)
+}
+
+// The size of a page, written to `size`: 0x0 if it is refused.
+#[no_mangle]
+pub extern "C" fn mearrasot_size(
+    words: &[u32],
+    numbers: &[f32],
+    size: &mut [f32; 2],
+    width: f32,
+    height: f32,
+    parent: f32,
+    available: f32,
+    how: u32,
+) -> u64
+    ensures { λ r. ⌜ Sized (sizeResult (now (words .entry)) (now (numbers .entry)) (questionOf width height parent available how) (axisOf how)) r (now (size .exit)) ⌝ }
+{
+    let q = question(width, height, parent, available, how);
+    let a = measure::size_question(words, numbers, q, axis(how));
+    match a {
+        SizeAnswer::Sized(s) => {
+            *size = [s.width, s.height];
+            packed(Answer::Done(0))
+        }
+        SizeAnswer::Refused(no) => {
+            *size = [0.0, 0.0];
+            packed(no)
+        }
+    }
+}

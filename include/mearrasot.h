@@ -1,0 +1,341 @@
+/*
+ * Mearrasot places boxes on a page. The caller lends tables of plain numbers
+ * and memory for the result; nothing else is read or written, and nothing is
+ * kept between calls. docs/EMBEDDING.md says what a caller owes.
+ *
+ * '01' is the document the product is built from.
+ */
+#ifndef MEARRASOT_H
+#define MEARRASOT_H
+
+#include <stddef.h>
+#include <stdint.h>
+
+#ifdef __cplusplus
+extern "C" {
+#endif
+
+/* ---- Limits ---- */
+
+#define MEARRASOT_MAX_NODES 1024
+#define MEARRASOT_MAX_DEPTH 32 /* the root is level 1 */
+#define MEARRASOT_MAX_EDITS 64
+
+/* ---- The tables: how many entries for each node or record ---- */
+
+#define MEARRASOT_WORDS 4    /* uint32_t for each node */
+#define MEARRASOT_NUMBERS 27 /* float for each node */
+#define MEARRASOT_ROW 16     /* float for each node */
+#define MEARRASOT_MARKS 2    /* uint32_t for each node */
+#define MEARRASOT_PAIR 2     /* uint32_t for each record */
+#define MEARRASOT_TRIPLE 3   /* float for each record */
+
+/*
+ * Nodes stand in preorder: a node, then all that is below its first child,
+ * then all that is below the next. Node 0 is the root. A subtree is a run.
+ *
+ * words, 4 for each node:
+ *   0  how many nodes the subtree has, the node itself included
+ *   1  style: the sum of one value from each group below
+ *   2  units of fields 0 to 13, two bits each, field f at bit 2f
+ *   3  units of fields 14 to 21, field f at bit 2(f - 14)
+ * All other bits are zero.
+ */
+
+/* Kind, bits 0-1. The root is a block. A leaf has no children. */
+#define MEARRASOT_BLOCK 0u
+#define MEARRASOT_LEAF 1u
+#define MEARRASOT_HIDDEN 2u
+/* Sizes are those of the content, without padding and border; else of all. */
+#define MEARRASOT_CONTENT_BOX (1u << 2)
+/* From right to left. */
+#define MEARRASOT_RTL (1u << 3)
+/* Position, bits 4-5. Plain and relative nodes are in the flow. */
+#define MEARRASOT_PLAIN (0u << 4)
+#define MEARRASOT_RELATIVE (1u << 4)
+#define MEARRASOT_OUT_OF_FLOW (2u << 4)
+/* Overflow across, bits 6-7, and down, bits 8-9. */
+#define MEARRASOT_VISIBLE 0u
+#define MEARRASOT_CLIP 1u
+#define MEARRASOT_HIDE 2u
+#define MEARRASOT_SCROLL 3u
+#define MEARRASOT_OVERFLOW_X(v) ((uint32_t)(v) << 6)
+#define MEARRASOT_OVERFLOW_Y(v) ((uint32_t)(v) << 8)
+/* Where the content stands in a taller box, bits 10-11. */
+#define MEARRASOT_ALIGN_NORMAL (0u << 10)
+#define MEARRASOT_ALIGN_START (1u << 10)
+#define MEARRASOT_ALIGN_CENTER (2u << 10)
+#define MEARRASOT_ALIGN_END (3u << 10)
+/* No margin collapses through this box. */
+#define MEARRASOT_CONTAINED (1u << 12)
+
+/* Units of a field. A fraction is of a width: 0.5 is half of it. */
+#define MEARRASOT_AUTO 0u     /* not for padding and border */
+#define MEARRASOT_PIXELS 1u
+#define MEARRASOT_FRACTION 2u /* not for heights, nor for top and bottom inset */
+
+/*
+ * numbers, 27 for each node. Fields 0 to 21 have a unit; the number of a field
+ * that is auto is not used, but has to be in range. Pixels are at most 65,536,
+ * fractions at most 1; only margins and insets may be negative.
+ */
+enum mearrasot_field {
+    MEARRASOT_F_WIDTH = 0,
+    MEARRASOT_F_HEIGHT = 1,
+    MEARRASOT_F_MIN_WIDTH = 2,
+    MEARRASOT_F_MIN_HEIGHT = 3,
+    MEARRASOT_F_MAX_WIDTH = 4,
+    MEARRASOT_F_MAX_HEIGHT = 5,
+    MEARRASOT_F_MARGIN = 6,   /* top; then right, bottom, left */
+    MEARRASOT_F_PADDING = 10, /* likewise */
+    MEARRASOT_F_BORDER = 14,  /* likewise */
+    MEARRASOT_F_INSET = 18,   /* likewise; moves a relative node */
+    MEARRASOT_F_RATIO = 22,   /* width / height, 1/64 to 64; 0 for none */
+    MEARRASOT_F_SCROLLBAR = 23,
+    MEARRASOT_F_LEAF_MIN = 24,    /* a leaf's narrowest width */
+    MEARRASOT_F_LEAF_MAX = 25,    /* its widest, not below the narrowest */
+    MEARRASOT_F_LEAF_HEIGHT = 26
+};
+
+/* Sides, to be added to MARGIN, PADDING, BORDER and INSET. */
+#define MEARRASOT_TOP 0
+#define MEARRASOT_RIGHT 1
+#define MEARRASOT_BOTTOM 2
+#define MEARRASOT_LEFT 3
+
+/*
+ * rows, 16 for each node, written by layout and relayout.
+ * Of a laid node: its place in its parent's box, its size, its margins as
+ * they reach its parent, and the question it was asked. What is absent is 0.
+ * Of a shown node out of the flow: start, line and end in 0, 1 and 2.
+ * 11 to 15 are for the next relayout alone.
+ */
+enum mearrasot_row {
+    MEARRASOT_R_X = 0,
+    MEARRASOT_R_Y = 1,
+    MEARRASOT_R_WIDTH = 2,
+    MEARRASOT_R_HEIGHT = 3,
+    MEARRASOT_R_TOP_SET = 4,    /* 4 and 5: largest positive, smallest negative */
+    MEARRASOT_R_BOTTOM_SET = 6, /* 6 and 7 */
+    MEARRASOT_R_KNOWN_WIDTH = 8,
+    MEARRASOT_R_KNOWN_HEIGHT = 9,
+    MEARRASOT_R_PARENT_WIDTH = 10,
+    MEARRASOT_R_PROBE = 11,
+    MEARRASOT_R_START = 0,
+    MEARRASOT_R_LINE = 1,
+    MEARRASOT_R_END = 2
+};
+
+/*
+ * marks, 2 for each node: its order, and bits. The order of a node counts the
+ * shown siblings before it; that of a hidden one counts all siblings before it.
+ */
+#define MEARRASOT_M_ORDER 0
+#define MEARRASOT_M_BITS 1
+#define MEARRASOT_LAID (1u << 0)
+#define MEARRASOT_THROUGH (1u << 1) /* margins collapse through it */
+#define MEARRASOT_OUT (1u << 2)     /* out of the flow, and shown */
+#define MEARRASOT_HEIGHT_ASKED (1u << 3)
+#define MEARRASOT_PROBED (1u << 4)
+#define MEARRASOT_PROBE_KIND(bits) (((bits) >> 5) & 3u) /* 1 definite, 2 min-content, 3 max-content */
+#define MEARRASOT_PROBE_HEIGHT (1u << 7)
+
+/*
+ * The candidate list: a record for each shown node out of the flow that is not
+ * below a hidden one or another such node, in preorder. It says where the node
+ * would stand, measured from the root's corner.
+ *   pairs, 2 for each record: the node's number, and its order
+ *   triples, 3 for each record: start, end, line
+ * Start and end are the left and right inner edge of its parent, line the y.
+ */
+
+/* ---- The question ---- */
+
+/*
+ * how, a sum of bits. Bits 2-3 are the kind of available width; 0 there means
+ * max-content. Bits from 7 on are ignored.
+ */
+#define MEARRASOT_KNOWN_WIDTH (1u << 0)  /* known_width counts, else it is not read */
+#define MEARRASOT_KNOWN_HEIGHT (1u << 1) /* known_height counts */
+#define MEARRASOT_DEFINITE (1u << 2)     /* available counts */
+#define MEARRASOT_MIN_CONTENT (2u << 2)  /* as narrow as can be */
+#define MEARRASOT_MAX_CONTENT (3u << 2)  /* as wide as the content likes */
+#define MEARRASOT_START (1u << 4)        /* the root's top margin may collapse */
+#define MEARRASOT_END (1u << 5)          /* so may its bottom margin */
+#define MEARRASOT_WIDTH_ONLY (1u << 6)   /* mearrasot_size alone */
+
+/* ---- The answer ---- */
+
+/*
+ * An answer has a number (upper 32 bits) and a place (lower 32 bits). Refusals
+ * are tested in this order; each is given exactly if it is due.
+ */
+enum mearrasot_answer {
+    MEARRASOT_DONE = 0,       /* accepted; place: the count of candidates, 0 for a size */
+    MEARRASOT_LENGTHS = 1,    /* no node, over 1,024, or tables not of n nodes; place 0 */
+    MEARRASOT_TREE = 2,       /* a subtree's size is wrong, a leaf has children, over 32 levels; place: the lowest such node */
+    MEARRASOT_CODES = 3,      /* unknown code, unused bit, forbidden unit, root not a block; the lowest node */
+    MEARRASOT_BAD_NUMBER = 4, /* NaN, infinite or out of range; the lowest node, n for the question */
+    MEARRASOT_ROOM = 5,       /* too few records lent; place 0. Not by mearrasot_size */
+    MEARRASOT_EDITS = 6,      /* an edit that is no node, or over 64; its index, or 64. mearrasot_relayout alone */
+    MEARRASOT_NOT_LAID = 7,   /* the root's row was not laid; place 0. mearrasot_relayout alone */
+    MEARRASOT_TOO_LARGE = 8   /* a result of 16,777,216 or more; the lowest node, 0 for a size */
+};
+
+static inline uint32_t mearrasot_number(uint64_t answer) {
+    return (uint32_t)(answer >> 32);
+}
+
+static inline uint32_t mearrasot_place(uint64_t answer) {
+    return (uint32_t)(answer & 0xffffffffu);
+}
+
+/* ---- The calls ---- */
+
+/*
+ * Every slice is a pointer and its count of entries, not of bytes. A pointer is
+ * never null, also where the count is 0. Memory that a call writes overlaps
+ * nothing else that it is lent.
+ *
+ * Of a layout and a relayout, 1 to 7 leave all lent memory as it was; 8 leaves
+ * rows and marks zero, and the candidates as they were. Accepted, every row and
+ * mark is written; pairs and triples are written up to the count and not past it.
+ */
+
+/* A layout from scratch. What rows and marks held before does not matter. */
+uint64_t mearrasot_layout(const uint32_t *words, size_t words_len,
+                          const float *numbers, size_t numbers_len,
+                          float *rows, size_t rows_len,
+                          uint32_t *marks, size_t marks_len,
+                          uint32_t *pairs, size_t pairs_len,
+                          float *triples, size_t triples_len,
+                          float known_width, float known_height,
+                          float parent_width, float available,
+                          uint32_t how);
+
+/*
+ * A layout that keeps what still holds in rows and marks, which the last
+ * accepted call left. edits names each node whose words or numbers changed
+ * since then, in any order. The tree has the same shape as before.
+ */
+uint64_t mearrasot_relayout(const uint32_t *words, size_t words_len,
+                            const float *numbers, size_t numbers_len,
+                            float *rows, size_t rows_len,
+                            uint32_t *marks, size_t marks_len,
+                            uint32_t *pairs, size_t pairs_len,
+                            float *triples, size_t triples_len,
+                            const uint32_t *edits, size_t edits_len,
+                            float known_width, float known_height,
+                            float parent_width, float available,
+                            uint32_t how);
+
+/*
+ * The size of the page alone: width and height go to size[0] and size[1], 0 and
+ * 0 if refused. With MEARRASOT_WIDTH_ONLY the height is 0 unless it is known.
+ */
+uint64_t mearrasot_size(const uint32_t *words, size_t words_len,
+                        const float *numbers, size_t numbers_len,
+                        float size[2],
+                        float known_width, float known_height,
+                        float parent_width, float available,
+                        uint32_t how);
+
+/* ---- Helpers, for the caller's convenience ---- */
+
+/*
+ * A node with size nodes in its subtree and that style. Sizes, limits and
+ * insets are auto, margins, padding and border 0 pixels, all else is 0.
+ */
+static inline void mearrasot_node(uint32_t *words, float *numbers, size_t node,
+                                  uint32_t size, uint32_t style) {
+    uint32_t *w = words + MEARRASOT_WORDS * node;
+    float *x = numbers + MEARRASOT_NUMBERS * node;
+    size_t f;
+    w[0] = size;
+    w[1] = style;
+    w[2] = 0x05555000u; /* margins and padding: pixels */
+    w[3] = 0x00000055u; /* border: pixels */
+    for (f = 0; f < MEARRASOT_NUMBERS; f++) {
+        x[f] = 0.0f;
+    }
+}
+
+/* One of the fields 0 to 21 with its unit. */
+static inline void mearrasot_set(uint32_t *words, float *numbers, size_t node,
+                                 unsigned field, uint32_t unit, float value) {
+    uint32_t *w = words + MEARRASOT_WORDS * node + (field < 14u ? 2 : 3);
+    unsigned at = 2u * (field < 14u ? field : field - 14u);
+    *w = (*w & ~((uint32_t)3u << at)) | (unit << at);
+    numbers[MEARRASOT_NUMBERS * node + field] = value;
+}
+
+/* What a leaf measures: narrowest and widest width, and height. */
+static inline void mearrasot_measure(float *numbers, size_t node, float least,
+                                     float most, float height) {
+    float *x = numbers + MEARRASOT_NUMBERS * node;
+    x[MEARRASOT_F_LEAF_MIN] = least;
+    x[MEARRASOT_F_LEAF_MAX] = most;
+    x[MEARRASOT_F_LEAF_HEIGHT] = height;
+}
+
+/* The tables of a page, with lengths by the number of nodes and of records. */
+struct mearrasot_page {
+    size_t nodes;
+    const uint32_t *words;
+    const float *numbers;
+    float *rows;
+    uint32_t *marks;
+    size_t records;
+    uint32_t *pairs;
+    float *triples;
+};
+
+struct mearrasot_question {
+    float known_width;
+    float known_height;
+    float parent_width;
+    float available;
+    uint32_t how;
+};
+
+static inline uint64_t mearrasot_layout_page(const struct mearrasot_page *p,
+                                             struct mearrasot_question q) {
+    return mearrasot_layout(
+        p->words, MEARRASOT_WORDS * p->nodes,
+        p->numbers, MEARRASOT_NUMBERS * p->nodes,
+        p->rows, MEARRASOT_ROW * p->nodes,
+        p->marks, MEARRASOT_MARKS * p->nodes,
+        p->pairs, MEARRASOT_PAIR * p->records,
+        p->triples, MEARRASOT_TRIPLE * p->records,
+        q.known_width, q.known_height, q.parent_width, q.available, q.how);
+}
+
+static inline uint64_t mearrasot_relayout_page(const struct mearrasot_page *p,
+                                               const uint32_t *edits,
+                                               size_t edits_len,
+                                               struct mearrasot_question q) {
+    return mearrasot_relayout(
+        p->words, MEARRASOT_WORDS * p->nodes,
+        p->numbers, MEARRASOT_NUMBERS * p->nodes,
+        p->rows, MEARRASOT_ROW * p->nodes,
+        p->marks, MEARRASOT_MARKS * p->nodes,
+        p->pairs, MEARRASOT_PAIR * p->records,
+        p->triples, MEARRASOT_TRIPLE * p->records,
+        edits, edits_len,
+        q.known_width, q.known_height, q.parent_width, q.available, q.how);
+}
+
+static inline uint64_t mearrasot_size_page(const struct mearrasot_page *p,
+                                           float size[2],
+                                           struct mearrasot_question q) {
+    return mearrasot_size(
+        p->words, MEARRASOT_WORDS * p->nodes,
+        p->numbers, MEARRASOT_NUMBERS * p->nodes, size,
+        q.known_width, q.known_height, q.parent_width, q.available, q.how);
+}
+
+#ifdef __cplusplus
+}
+#endif
+
+#endif
