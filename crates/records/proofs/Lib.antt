@@ -1,0 +1,11 @@
+pub mod Reading
+pub mod Run
+pub mod Refusals
+pub mod Few
+pub mod Cut
+pub mod Decode
+pub mod Within
+pub mod Finish
+pub mod Lent
+pub mod Puts
+pub mod EnoughOrFew
