@@ -5,14 +5,15 @@ use mathlib.Core.List.{List}
 use Prim.Native.Nat.{ℕ, zero, suc, _+_, _≤_}
 use native.Mathlib.Omega.{arith}
 use lib.Ieee.{Float}
-use lib.ListN.{drop}
+use lib.ListN.{length, take, drop, replicate}
 use lib.Dec.{leb}
 use borrow.Author.Tests.{leb-true}
 use Rattle.util.specs.declared.OptionF32.{OptionF32}
 use Rattle.util.specs.declared.OptionF32.the-variants.{None, Some}
 use Rattle.util.specs.declared.OptionSize.{OptionSize}
 use Rattle.length.specs.declared.AvailableSpace.{AvailableSpace}
-use Rattle.text.specs.Pieces.{pieceAt, startsWith}
+use Rattle.geometry.specs.Geometry.{zeroF}
+use Rattle.text.specs.Pieces.{linesOf, pieceAt, startsWith}
 use Rattle.text.specs.Values.{valueOf}
 use Rattle.text.specs.Laws.{value-within}
 use Rattle.text.specs.declared.Value.{Value}
@@ -25,6 +26,9 @@ use Rattle.lines.specs.declared.AvailLine.the-variants as avail
 use Rattle.lines.specs.declared.FlagsLine.{FlagsLine}
 use Rattle.lines.specs.declared.FlagsLine.the-variants as flags
 use Rattle.page.specs.Head.{flagsIn, availIn, knownIn, parentIn, countIn, headOf}
+use Rattle.page.specs.Body.{tables, Body, Wrong, Right, rest}
+use Rattle.page.specs.File.{nodeLimit, badFile, bodyFile, fileFrom, fileOf, pageFile}
+use Rattle.page.specs.declared.PageFile.the-variants.{Page}
 use Rattle.page.specs.declared.Head.{Head}
 use Rattle.page.specs.declared.HeadLines.{HeadLines}
 use Rattle.page.specs.declared.HeadLines.the-variants.{Bad, Is}
@@ -83,3 +87,24 @@ by-count limit ls l (value.Is n) h q e =
 pub head-fits : (limit : ℕ) (ls : List (List ℕ)) (h : Head) → headOf limit ls ≡ Is h → h .count ≤ limit
 unfolding headOf
 head-fits limit ls h e = by-count limit ls (pieceAt ls 0) (nodesLine limit (pieceAt ls 0)) h refl e
+
+by-body : (lw lx : ℕ) (h h′ : Head) (b : Body) → bodyFile lw lx h b .file ≡ Page h′ → h ≡ h′
+unfolding bodyFile badFile
+by-body lw lx h h′ (Wrong k) e =
+    let z : _≡_ {A = ℕ} 0 1 = cc in
+    absurd (omega arith)
+by-body lw lx h h′ (Right t) e = cc
+
+by-head : (whole : Bool) (lw lx : ℕ) (s : List ℕ) (x : HeadLines) (h : Head) → headOf (nodeLimit lw lx) (linesOf s) ≡ x → fileFrom whole lw lx s x .file ≡ Page h → h .count ≤ nodeLimit lw lx
+unfolding fileFrom badFile
+by-head whole lw lx s (Bad k) h q e =
+    let z : _≡_ {A = ℕ} 0 1 = cc in
+    absurd (omega arith)
+by-head whole lw lx s (Is g) h q e =
+    let z : g ≡ h = by-body lw lx g h (rest whole (g .count) 6 (tables 0 (replicate lw 0) (replicate lx zeroF)) (drop 5 (linesOf s))) e in
+    rw (← z) (head-fits (nodeLimit lw lx) (linesOf s) g q)
+
+-- a page that is read has no more nodes than its tables take
+pub page-fits : (lw lx : ℕ) (s : List ℕ) (h : Head) → pageFile lw lx s .file ≡ Page h → h .count ≤ nodeLimit lw lx
+unfolding pageFile fileOf
+page-fits lw lx s h e = by-head (leb (length s) 262143) lw lx (take 262143 s) (headOf (nodeLimit lw lx) (linesOf (take 262143 s))) h refl e

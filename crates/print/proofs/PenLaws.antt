@@ -5,10 +5,10 @@ use mathlib.Core.List.{List, [], _∷_, _++_}
 use Prim.Native.Nat.{ℕ, zero, suc, _+_, _-_, _/_, _%_, _<_, _≤_}
 use native.Mathlib.Omega.{arith}
 use native.Mathlib.Numerals.{add-one}
-use lib.ListN.{length, set, drop, getD, drop-of-length-le}
+use lib.ListN.{length, set, length-set, drop, getD, drop-of-length-le}
 use lib.Seq.{drop-cons}
 use lib.Dec.{ltb}
-use borrow.Author.Tests.{lt-ltb, le-ltb}
+use borrow.Author.Tests.{lt-ltb, le-ltb, ltb-true}
 use Rattle.print.specs.Pen.{Pen, pen, putByte, putAll}
 use Rattle.print.specs.Text.{glyph, decimal, hexText, each}
 
@@ -83,3 +83,14 @@ pub getD-any : {A : Type 0} (l : List A) (i : ℕ) (d e : A) → i < length l �
 getD-any [] i d e h = absurd (omega arith)
 getD-any (a ∷ l) zero d e h = refl
 getD-any (a ∷ l) (suc i) d e h = getD-any l i d e (omega arith)
+
+within-by : (b : ℕ) (p : Pen) (e : Bool) → ltb (p .at) (length (p .bytes)) ≡ e → p .at ≤ length (p .bytes) → putByte b p .at ≤ length (putByte b p .bytes)
+unfolding putByte
+within-by b p true e h = rw e (rw (length-set (p .bytes) (p .at) b) (omega (arith, ltb-true (p .at) (length (p .bytes)) e)))
+within-by b p false e h = rw e h
+
+-- the pen never leaves the buffer
+pub stays-within : (l : List ℕ) (p : Pen) → p .at ≤ length (p .bytes) → putAll l p .at ≤ length (putAll l p .bytes)
+unfolding putAll
+stays-within [] p h = h
+stays-within (b ∷ l) p h = stays-within l (putByte b p) (within-by b p (ltb (p .at) (length (p .bytes))) refl h)
