@@ -3,3 +3,4 @@ pub mod Claims
 pub mod Honest
 pub mod AtExit
 pub mod Outcomes
+pub mod NeverCut

@@ -1,12 +1,13 @@
 -- Texts written one after the other. Assumes nothing.
 use mathlib.Core.Path.{_≡_, refl, sym, _∙_, ap}
 use mathlib.Core.Bool.{Bool, true, false, cond}
-use mathlib.Core.List.{List, [], _∷_, _++_}
+use mathlib.Core.List.{List, [], _∷_, _++_, append-nil, append-assoc}
 use Prim.Native.Nat.{ℕ, zero, suc, _+_, _-_, _/_, _%_, _<_, _≤_}
 use native.Mathlib.Omega.{arith}
 use native.Mathlib.Numerals.{add-one}
-use lib.ListN.{length, set, length-set, drop, getD, drop-of-length-le}
-use lib.Seq.{drop-cons}
+use native.Mathlib.Nat.{zero-add}
+use lib.ListN.{length, length-append, set, length-set, drop, getD, drop-of-length-le}
+use lib.Seq.{drop-cons, set-append-seam, append-snoc}
 use lib.Dec.{ltb}
 use borrow.Author.Tests.{lt-ltb, le-ltb, ltb-true}
 use Rattle.print.specs.Pen.{Pen, pen, putByte, putAll}
@@ -94,3 +95,19 @@ pub stays-within : (l : List ℕ) (p : Pen) → p .at ≤ length (p .bytes) → 
 unfolding putAll
 stays-within [] p h = h
 stays-within (b ∷ l) p h = stays-within l (putByte b p) (within-by b p (ltb (p .at) (length (p .bytes))) refl h)
+
+put-from : (l p q : List ℕ) → length l ≤ length q → putAll l (pen (p ++ q) (length p)) ≡ pen ((p ++ l) ++ drop (length l) q) (length p + length l)
+unfolding putAll putByte
+put-from [] p q h =
+    let z : length p ≡ length p + 0 = omega arith in
+    ap (λ (b : List ℕ). pen (b ++ q) (length p)) (sym (append-nil p)) ∙ ap (pen ((p ++ []) ++ q)) z
+put-from (b ∷ l) p [] h = absurd (omega arith)
+put-from (b ∷ l) p (y ∷ q) h =
+    let t : length p < length (p ++ (y ∷ q)) = simp length-append (omega arith) in
+    let e : length p + 1 ≡ length (p ++ (b ∷ [])) = simp length-append in
+    let z : length (p ++ (b ∷ [])) + length l ≡ length p + suc (length l) = simp length-append (omega arith) in
+    rw (lt-ltb (length p) (length (p ++ (y ∷ q))) t, set-append-seam p y q b, ← append-snoc p b q, e) (put-from l (p ++ (b ∷ [])) q (omega arith) ∙ rw (append-snoc p b l, z))
+
+-- a text that has room stands at the front, and the rest is as it was
+pub all-put : (l out : List ℕ) → length l ≤ length out → putAll l (pen out 0) ≡ pen (l ++ drop (length l) out) (length l)
+all-put l out h = put-from l [] out h ∙ ap (pen (l ++ drop (length l) out)) (zero-add (length l))
