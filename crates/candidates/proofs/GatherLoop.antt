@@ -1,26 +1,23 @@
 -- The loop of `gather`, and one tree of it, in plain terms.
 use mathlib.Core.Path.{_≡_, refl, sym, ap, _∙_}
-use mathlib.Core.Bool.{Bool, true, false, cond}
-use mathlib.Core.List.{List, [], _∷_, _++_, append-assoc, append-nil, map}
-use Prim.Native.Nat.{ℕ, zero, suc, _+_, _*_, _-_, _<_, _≤_}
+use mathlib.Core.List.{List, [], _++_, append-assoc, append-nil}
+use Prim.Native.Nat.{ℕ, suc, _+_, _*_, _-_, _<_, _≤_}
 use native.Mathlib.Omega.{arith}
-use native.Mathlib.Nat.{add-zero, add-assoc}
-use lib.ListN.{length, getD, take, drop, length-append, length-drop, length-map}
-use lib.Seq.{take-at, drop-at, drop-drop, drop-append-add}
+use native.Mathlib.Nat.{add-zero}
+use lib.ListN.{length, take, drop, length-append, length-drop}
+use lib.Seq.{take-at, drop-at, drop-drop}
 use lib.Ieee.{Float}
 use borrow.Rule.Slice.PartMut.{putMid}
-use Rattle.style.specs.Codes.{flagAt}
 use Rattle.style.specs.Style.{wordAt}
-use Rattle.tree.specs.Tree.{Tree, Forest, node, none, more, countT, countF, flatF}
-use Rattle.tree.proofs.Laws.{countT-node}
+use Rattle.tree.specs.Tree.{Tree, Forest, node, none, more, countT}
 use Rattle.tree.proofs.Lists.{tail-part, tail-put}
-use Rattle.steps.specs.Row.{Row, rowNumbers, rowWords, isLaid, isOut}
+use Rattle.steps.specs.Row.{Row}
 use Rattle.steps.specs.Results.{listed}
-use Rattle.steps.specs.Candidates.{Candidate, candidateWords, candidateNumbers, candidateOf, movedBy, candidatesAt, candidatesT, candidatesF}
-use Rattle.rows.proofs.Listed.{listed-nil, listed-cons, listed-append, length-listed}
-use Rattle.walks.specs.Tables.{newNumbers, newWords, RowsOf}
-use Rattle.candidates.specs.Gathered.{shifted, AllMoved, RowsOfT, RoomFor, RoomOne, RecordPut, GivenT, GivenF, Fronts, GathersT, GathersF}
-use Rattle.candidates.proofs.RowParts.{Left, Child, child-of, left-begin, left-none, left-some, Facts, facts}
+use Rattle.steps.specs.Candidates.{Candidate, candidateWords, candidateNumbers, candidatesAt, candidatesT, candidatesF}
+use Rattle.steps.proofs.Listed.{listed-append, length-listed}
+use Rattle.walks.specs.Tables.{RowsOf}
+use Rattle.candidates.specs.Gathered.{RowsOfT, RoomFor, Fronts}
+use Rattle.candidates.proofs.RowParts.{Left, child-of, left-begin, left-none, left-some}
 
 pub candF-none : (b : ℕ) → candidatesF b none ≡ []
 unfolding candidatesF
@@ -74,9 +71,6 @@ one-more f k each got l lent mem new used hu hm hn =
     let n2 : new ≡ listed f l ++ drop (k * used + k * length l) lent = hn ∙ rw (tail-part (k * used) mem, d, drop-drop (k * length l) (k * used) lent) in
     let s : k * (used + length l) ≡ k * used + k * length l = omega arith in
     tail-put (k * used) mem new ∙ rw (a, n2, listed-append f got l, s) (sym (append-assoc (listed f got) (listed f l) _))
-
-record RoomLeft (got l : List Candidate) (mem lent : ℕ) : Type 0 where
-  enough : lent ≤ mem
 
 module _ (ws : List ℕ) (rs : List Float) (ms : List ℕ) (b : ℕ) (pairs₀ : List ℕ) (triples₀ : List Float) (pairs : List ℕ) (triples : List Float) (ts : Forest Row) (a e used : ℕ) (ed : e ≡ a + wordAt ws a 0)
     (lp : length pairs ≡ length pairs₀) (lt3 : length triples ≡ length triples₀) (rm : RoomFor (candidatesF b ts) pairs₀ triples₀) where

@@ -1,14 +1,14 @@
 -- The loop of `move_records`: what is done and what is left, and one turn.
 use mathlib.Core.Path.{_≡_, refl, sym, ap, _∙_}
 use mathlib.Core.List.{List, [], _∷_, _++_, append-assoc, append-nil, map}
-use Prim.Native.Nat.{ℕ, zero, suc, _+_, _*_, _<_, _≤_}
+use Prim.Native.Nat.{ℕ, _+_, _*_, _<_, _≤_}
 use native.Mathlib.Omega.{arith}
 use lib.ListN.{length, getD, set, length-append}
 use lib.Ieee.{Float, add, nan, binary32}
 use Rattle.tree.proofs.Lists.{getD-in, set-in}
 use Rattle.steps.specs.Results.{listed}
 use Rattle.steps.specs.Candidates.{Candidate, candidateNumbers}
-use Rattle.rows.proofs.Listed.{listed-nil, listed-cons, listed-append, length-listed}
+use Rattle.steps.proofs.Listed.{listed-nil, listed-cons, listed-append, length-listed}
 use Rattle.candidates.specs.Gathered.{shifted}
 
 pub record Rest (xs : List Float) (x y : Float) (l : List Candidate) (z : List Float) (i : ℕ) : Type 0 where

@@ -1,23 +1,22 @@
 -- One tree of the list: a record put at the front, the records below moved by a place, or none.
 use mathlib.Core.Path.{_≡_, refl, sym, ap, _∙_}
-use mathlib.Core.Bool.{Bool, true, false, cond}
-use mathlib.Core.List.{List, [], _∷_, _++_, append-assoc, append-nil, map}
-use Prim.Native.Nat.{ℕ, zero, suc, _+_, _*_, _-_, _<_, _≤_}
+use mathlib.Core.Bool.{true, false}
+use mathlib.Core.List.{List, [], _∷_, _++_, map}
+use Prim.Native.Nat.{ℕ, suc, _+_, _*_, _-_, _≤_}
 use native.Mathlib.Omega.{arith}
 use native.Mathlib.Numerals.{add-one}
-use lib.ListN.{length, getD, set, take, drop, length-append, length-drop, length-map}
+use lib.ListN.{length, getD, set, take, drop, length-drop, length-map}
 use lib.Ieee.{Float, nan}
 use Rattle.style.specs.Codes.{flagAt}
-use Rattle.tree.specs.Tree.{Tree, Forest, node, none, more, countT, countF, flatF}
+use Rattle.tree.specs.Tree.{Tree, Forest, node, countT}
 use Rattle.tree.proofs.Laws.{countT-node}
 use Rattle.tree.proofs.Lists.{tail-part}
-use Rattle.steps.specs.Row.{Row, rowNumbers, rowWords, isLaid, isOut}
+use Rattle.steps.specs.Row.{Row, isLaid, isOut}
 use Rattle.steps.specs.Results.{listed}
 use Rattle.steps.specs.Candidates.{Candidate, candidateWords, candidateNumbers, candidateOf, movedBy, candidatesAt, candidatesT, candidatesF}
-use Rattle.rows.proofs.Listed.{listed-nil, listed-cons}
-use Rattle.walks.specs.Tables.{newNumbers, newWords, RowsOf}
-use Rattle.candidates.specs.Gathered.{shifted, AllMoved, RowsOfT, RoomFor, RoomOne, RecordPut, GivenT, GivenF, Fronts, GathersT, GathersF}
-use Rattle.candidates.proofs.RowParts.{Facts, facts}
+use Rattle.steps.proofs.Listed.{listed-nil, listed-cons}
+use Rattle.candidates.specs.Gathered.{shifted, AllMoved, RowsOfT, RoomFor, RoomOne, RecordPut, GivenT, GivenF, GathersT, GathersF}
+use Rattle.candidates.proofs.RowParts.{facts}
 use Rattle.candidates.proofs.GatherLoop.{candT-node}
 
 pub pair-put : (l : List ℕ) (a b : ℕ) → 2 ≤ length l → set (set l 0 a) 1 b ≡ a ∷ b ∷ drop 2 l

@@ -1,17 +1,17 @@
 -- Small facts that keep the definitions honest: how long the lists are, and what the rows of the root, of hidden and of out-of-flow children hold.
 use mathlib.Core.Path.{_≡_, refl, sym, ap, _∙_}
 use mathlib.Core.Bool.{true}
-use mathlib.Core.List.{List, [], _∷_, _++_}
+use mathlib.Core.List.{[], _∷_}
 use Prim.Native.Nat.{ℕ, _*_}
 use lib.ListN.{length, replicate}
 use lib.Ieee.{Float}
 use Rattle.geometry.specs.Geometry.{zeroF}
 use Rattle.margin.specs.Margin.{noMargins}
-use Rattle.tree.specs.Tree.{Tree, Forest, node, more, countT, flatT, mapT, rootT, onRoot}
+use Rattle.tree.specs.Tree.{Tree, Forest, node, more, countT, rootT, onRoot}
 use Rattle.tree.proofs.Laws.{length-flatT, count-mapT}
 use Rattle.steps.specs.Width.{flowOf}
 use Rattle.steps.specs.Row.{Row, rowNumbers, rowWords, isLaid, bare, hiddenRow, asideRow, laidRow}
-use Rattle.steps.specs.Page.{Site, Cell, Node, blank}
+use Rattle.steps.specs.Page.{Site, Cell, Node}
 use Rattle.steps.specs.Probe.{widthPass}
 use Rattle.steps.specs.Kept.{zerosT}
 use Rattle.steps.specs.Layout.{Stacked, layT, layF, relaid, fresh, skip}
@@ -21,8 +21,9 @@ use Rattle.steps.specs.declared.Flow.the-variants.{Gone}
 use Rattle.steps.specs.declared.LayoutInput.{LayoutInput}
 use Rattle.steps.specs.declared.Frame.{Frame}
 use Rattle.steps.specs.declared.Cursor.{Cursor}
-use Rattle.laws.specs.Shape.{mute, fresh-shape}
-use Rattle.laws.specs.Clauses.{styleT, layF-gone}
+use Rattle.steps.proofs.Shape.{mute}
+use Rattle.steps.proofs.Clauses.{styleT, layF-gone}
+use Rattle.laws.specs.Shape.{fresh-shape}
 use Rattle.laws.specs.Along.{root-row, root-laid}
 
 fresh-count : (t : Tree Site) (q : LayoutInput) → countT (fresh t q .rows) ≡ countT t

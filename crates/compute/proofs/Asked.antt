@@ -2,7 +2,7 @@
 use mathlib.Core.Path.{_≡_, refl, sym, ap, _∙_}
 use mathlib.Core.Bool.{Bool, true, false, not, _&&_}
 use mathlib.Core.List.{List, [], _∷_, _++_}
-use Prim.Native.Nat.{ℕ, zero, suc, _+_, _*_, _-_, _/_, _%_, _<_, _≤_}
+use Prim.Native.Nat.{ℕ, suc, _+_, _-_, _/_}
 use native.Mathlib.Omega.{arith}
 use lib.ListN.{length, take, drop, replicate, length-drop}
 use lib.Seq.{take-at}
@@ -13,15 +13,15 @@ use Rattle.geometry.specs.declared.Line.{Line}
 use Rattle.geometry.specs.declared.Point.{Point}
 use Rattle.style.specs.Style.{styleAt}
 use Rattle.style.specs.declared.Style.{Style}
-use Rattle.tree.specs.Tree.{Tree, Forest, node, none, more, countT, countF, flatT, flatF, mapT, mapF, rootT, onRoot}
+use Rattle.tree.specs.Tree.{Tree, Forest, node, countT, countF, flatT, flatF, mapT, mapF, rootT, onRoot}
 use Rattle.tree.proofs.Laws.{countT-node, flatT-node, mapT-node, onRoot-node}
 use Rattle.tree.proofs.Lists.{tail-part, tail-put}
 use Rattle.steps.specs.Width.{flowOf}
 use Rattle.steps.specs.Stack.{itemOf, stepJ, placeOf, stepped, lineOf, edgesOf, pastAside, pastHidden}
-use Rattle.steps.specs.Row.{Row, rowNumbers, rowWords, hiddenRow, asideRow, laidRow, putAt, noted, withCode, probeOf, outputIn}
-use Rattle.steps.specs.Page.{Cell, Node, staying, anyT}
+use Rattle.steps.specs.Row.{Row, rowNumbers, rowWords, hiddenRow, asideRow, laidRow, putAt, noted, probeOf, outputIn}
+use Rattle.steps.specs.Page.{Cell, staying, anyT}
 use Rattle.steps.specs.Kept.{Laid, finalStands, editedNode, kept, keep, keptRow, zerosT, zerosF, fixF}
-use Rattle.steps.specs.Layout.{layT, askT}
+use Rattle.steps.specs.Layout.{askT}
 use Rattle.steps.specs.declared.Flow.{Flow}
 use Rattle.steps.specs.declared.Flow.the-variants.{Gone, Out, In}
 use Rattle.steps.specs.declared.LayoutInput.{LayoutInput}
@@ -29,15 +29,16 @@ use Rattle.steps.specs.declared.LayoutOutput.{LayoutOutput}
 use Rattle.steps.specs.declared.Frame.{Frame}
 use Rattle.steps.specs.declared.Cursor.{Cursor}
 use Rattle.steps.specs.declared.BlockItem.{BlockItem}
-use Rattle.walks.specs.Tables.{oldNumbers, oldWords, newNumbers, newWords, TabledT, TabledF, IsBelow, KeptBelow}
-use Rattle.walks.proofs.Parts.{Tree-facts, tree-facts}
+use Rattle.steps.proofs.Clauses.{askT-kept, askT-new}
+use Rattle.steps.proofs.Codes.{same-code}
+use Rattle.walks.specs.Tables.{oldNumbers, oldWords, newNumbers, newWords, TabledT, IsBelow, KeptBelow}
+use Rattle.walks.proofs.Parts.{tree-facts}
+use Rattle.walks.proofs.Given.{facts}
+use Rattle.walks.proofs.Edited.{edited-stays}
 use Rattle.rows.specs.Store.{Becomes, Reads}
-use Rattle.rows.specs.Edited.{touched}
-use Rattle.compute.specs.Contract.{IsTree, Placed, placedIn, placedBy, placedT, AreT, LaidT, AskedT, PlacedT, Stands, LeafPut}
-use Rattle.compute.proofs.LayClauses.{askT-kept, askT-new}
+use Rattle.compute.specs.Contract.{IsTree, placedIn, placedBy, placedT, AreT, LaidT, AskedT, PlacedT, Stands, LeafPut}
 use Rattle.compute.proofs.Shape.{sizes-mapF, same-countF}
-use Rattle.compute.proofs.Edited.{edited-run}
-use Rattle.compute.proofs.OneTree.{Facts, facts, flat-leaf, root-style}
+use Rattle.compute.proofs.OneTree.{flat-leaf, root-style}
 
 kept-of : (l : Cell) (ks : Forest Cell) (q : LayoutInput) → kept (mapT staying (node l ks)) q ≡ (not (anyT editedNode (mapT staying (node l ks))) && finalStands q (l .old))
 unfolding kept rootT staying mapT
@@ -46,12 +47,6 @@ kept-of l ks q = refl
 keep-of : (l : Cell) (ks : Forest Cell) → keep (mapT staying (node l ks)) ≡ record { out = outputIn (l .old); rows = node (keptRow (staying l)) (fixF (mapF staying ks)) }
 unfolding keep staying mapT
 keep-of l ks = refl
-
-same-code : (b : ℕ) → withCode b (b / 16 % 16) ≡ b
-unfolding withCode
-same-code b =
-    let x : b / 256 ≡ b / 16 / 16 = omega arith in
-    omega arith
 
 kept-row : (l : Cell) → (rowNumbers (keptRow (staying l)) ≡ rowNumbers (l .old)) × (rowWords (keptRow (staying l)) ≡ rowWords (l .old))
 unfolding keptRow staying noted probeOf
@@ -62,7 +57,7 @@ module _ (ws : List ℕ) (xs rs : List Float) (ms es : List ℕ) (b : ℕ) (q : 
   flag-is l ks h =
       let k = tree-facts ws xs rs ms es b l ks h in
       let n : length ws / 4 ≡ countT (node l ks) = omega (arith, h .words-long) in
-      kept-of l ks q ∙ rw (edited-run ws xs es b (node l ks) (h .sites-are), ← n) (sym (stood (l .old) (flatF oldNumbers ks) (flatF oldWords ks) (k .rows-head) (k .marks-head)))
+      kept-of l ks q ∙ rw (edited-stays ws xs es b (node l ks) (h .sites-are), ← n) (sym (stood (l .old) (flatF oldNumbers ks) (flatF oldWords ks) (k .rows-head) (k .marks-head)))
 
   pub new-asked : (o : LayoutOutput) (rs′ : List Float) (ms′ : List ℕ) → flag ≡ false → LaidT ws xs rs ms es b q zeroF o rs′ ms′ → AskedT ws xs rs ms es b q o rs′ ms′
   new-asked o rs′ ms′ e laid (node l ks) h = rw (askT-new (mapT staying (node l ks)) q (flag-is l ks h ∙ e)) (laid (node l ks) h)

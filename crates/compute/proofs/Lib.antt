@@ -1,6 +1,5 @@
-pub mod LayClauses
+pub mod OneChild
 pub mod Shape
-pub mod Edited
 pub mod StackLoop
 pub mod OneTree
 pub mod Asked

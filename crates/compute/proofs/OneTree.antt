@@ -1,12 +1,10 @@
 -- What each member of the cycle does with one tree, in plain terms.
 use mathlib.Core.Path.{_≡_, refl, sym, ap, _∙_}
-use mathlib.Core.Bool.{Bool, true, false, not, _&&_}
-use mathlib.Core.List.{List, [], _∷_, _++_, append-assoc, map}
-use Prim.Native.Nat.{ℕ, zero, suc, _+_, _*_, _-_, _/_, _<_, _≤_}
+use mathlib.Core.Bool.{true, false}
+use mathlib.Core.List.{List, _++_}
+use Prim.Native.Nat.{ℕ, suc, _+_, _*_, _-_}
 use native.Mathlib.Omega.{arith}
-use native.Mathlib.Nat.{add-zero}
-use lib.ListN.{length, take, drop, replicate, length-append, length-drop}
-use lib.Seq.{take-at, drop-at}
+use lib.ListN.{length, take, drop, replicate, length-drop}
 use lib.Ieee.{Float}
 use borrow.Rule.Slice.PartMut.{putMid}
 use Rattle.geometry.specs.Geometry.{zeroF}
@@ -14,83 +12,33 @@ use Rattle.util.specs.declared.OptionF32.{OptionF32}
 use Rattle.util.specs.declared.OptionF32.the-variants.{None, Some}
 use Rattle.style.specs.Style.{wordAt, styleAt}
 use Rattle.style.specs.declared.Style.{Style}
-use Rattle.tree.specs.Tree.{Tree, Forest, node, none, more, countT, countF, depthT, depthF, flatT, flatF, mapT, mapF, rootT, onRoot}
-use Rattle.tree.specs.Table.{Entry, from}
-use Rattle.tree.proofs.Laws.{countT-node, flatT-node, flatF-more, mapT-node, rootT-node, onRoot-node, depthT-node, length-flatF}
-use Rattle.tree.proofs.Lists.{tail-part, tail-put, drop-front, from-shift}
-use Rattle.steps.specs.Width.{isLeaf, flowOf}
+use Rattle.tree.specs.Tree.{Tree, Forest, node, none, more, countT, countF, flatT, flatF, mapT, mapF, rootT, onRoot}
+use Rattle.tree.specs.Table.{from}
+use Rattle.tree.proofs.Laws.{countT-node, flatT-node, flatF-more, mapT-node, onRoot-node}
+use Rattle.tree.proofs.Lists.{tail-part, tail-put}
+use Rattle.steps.specs.Width.{isLeaf}
 use Rattle.steps.specs.Edges.{frameOf}
-use Rattle.steps.specs.Stack.{startOf, itemOf, stepJ, placeOf, stepped, lineOf, edgesOf, pastAside, pastHidden}
+use Rattle.steps.specs.Stack.{startOf}
 use Rattle.steps.specs.Height.{finished, leafOutput}
-use Rattle.steps.specs.Row.{Row, rowNumbers, rowWords, hiddenRow, asideRow, laidRow, probeOf, putAt, noted, withCode, outputIn, lowered}
-use Rattle.steps.specs.Page.{Site, Cell, Node, siteAt, staying, anyT}
-use Rattle.steps.specs.Kept.{Laid, finalStands, editedNode, kept, keep, keptRow, zerosT, zerosF, fixF}
-use Rattle.steps.specs.Layout.{Stacked, leafLaid, blockLaid, alignF, lowerF, layT, layF, askT}
-use Rattle.steps.specs.declared.Flow.{Flow}
-use Rattle.steps.specs.declared.Flow.the-variants.{Gone, Out, In}
+use Rattle.steps.specs.Row.{Row, rowNumbers, rowWords, laidRow, probeOf, lowered}
+use Rattle.steps.specs.Page.{Cell, Node, staying}
+use Rattle.steps.specs.Kept.{zerosF}
+use Rattle.steps.specs.Layout.{Stacked, leafLaid, blockLaid, alignF, lowerF, layT, layF}
 use Rattle.steps.specs.declared.LayoutInput.{LayoutInput}
 use Rattle.steps.specs.declared.LayoutOutput.{LayoutOutput}
 use Rattle.steps.specs.declared.Frame.{Frame}
 use Rattle.steps.specs.declared.Cursor.{Cursor}
 use Rattle.steps.specs.declared.Finished.{Finished}
-use Rattle.walks.specs.Tables.{siteEntry, oldNumbers, oldWords, newNumbers, newWords, sizeOnly, TabledT, TabledF, RowsOf, IsRows, IsBelow, KeptBelow}
-use Rattle.walks.proofs.Parts.{Tree-facts, tree-facts}
-use Rattle.walks.proofs.FixClauses.{zero-rows, zero-marks}
+use Rattle.steps.proofs.Clauses.{layT-leaf, layT-block}
+use Rattle.walks.specs.Tables.{oldNumbers, oldWords, newNumbers, newWords, TabledT, RowsOf, IsRows}
+use Rattle.walks.proofs.Parts.{tree-facts}
+use Rattle.walks.proofs.Given.{Facts, facts}
+use Rattle.walks.proofs.Sizes.{sizes-ofF}
+use Rattle.walks.proofs.Zeros.{zero-rows, zero-marks}
 use Rattle.walks.proofs.LowerLoop.{lowerF-none, lowerF-more}
-use Rattle.rows.specs.Store.{Becomes, Reads, Room}
-use Rattle.rows.specs.Edited.{touched}
-use Rattle.compute.specs.Contract.{IsTree, IsForest, Placed, placedIn, placedBy, placedT, AreT, AreF, LaidT, AskedT, PlacedT, LaidF, Aligned, LeafPut, Stands}
-use Rattle.compute.proofs.LayClauses.{layT-leaf, layT-block, askT-kept, askT-new}
+use Rattle.rows.specs.Store.{Becomes}
+use Rattle.compute.specs.Contract.{IsTree, AreT, LaidT, LaidF, Aligned, LeafPut}
 use Rattle.compute.proofs.Shape.{sizes-layF, sizes-mapF, same-countF}
-use Rattle.compute.proofs.Edited.{edited-run}
-
-map-from : (f : ℕ → Entry Site) (i n : ℕ) → map (λ (x : Entry Site). x .size) (from f i n) ≡ from (λ k. f k .size) i n
-unfolding from
-map-from f i zero = refl
-map-from f i (suc n) = ap (λ (l : List ℕ). f i .size ∷ l) (map-from f (suc i) n)
-
-map-append : (l m : List (Entry Site)) → map (λ (x : Entry Site). x .size) (l ++ m) ≡ map (λ (x : Entry Site). x .size) l ++ map (λ (x : Entry Site). x .size) m
-map-append [] m = refl
-map-append (x ∷ l) m = ap (λ (z : List ℕ). x .size ∷ z) (map-append l m)
-
-mutual
-  unfolding flatT
-
-  map-entriesT : (t : Tree Cell) → map (λ (x : Entry Site). x .size) (flatT siteEntry t) ≡ flatT sizeOnly t
-  map-entriesT (node l ks) = ap (λ (z : List ℕ). suc (countF ks) ∷ z) (map-entries ks)
-
-  map-entries : (ts : Forest Cell) → map (λ (x : Entry Site). x .size) (flatF siteEntry ts) ≡ flatF sizeOnly ts
-  map-entries none = refl
-  map-entries (more t ts) = map-append (flatT siteEntry t) (flatF siteEntry ts) ∙ rw (map-entriesT t, map-entries ts)
-
--- the lengths and the children's tables of a tree that some `requires` gives
-pub record Facts (ws : List ℕ) (xs rs : List Float) (ms es : List ℕ) (b depth : ℕ) : Type 0 where
-  pub words-some : 4 ≤ length ws
-  pub room : Room rs ms
-  pub rows-long : length rs ≡ 4 * length ws
-  pub marks-long : 2 * length ms ≡ length ws
-  pub deep : 1 ≤ depth
-  pub fit : 4 * b + length ws ≤ 4096
-  pub kids : IsForest (take (length ws - 4) (drop 4 ws)) xs (take (length rs - 16) (drop 16 rs)) (take (length ms - 2) (drop 2 ms)) es (b + 1) (depth - 1)
-
-facts-of : (ws : List ℕ) (xs rs : List Float) (ms es : List ℕ) (b depth : ℕ) (t : Tree Cell) → TabledT ws xs rs ms es b t → depthT t ≤ depth → b + countT t ≤ 1024 → Facts ws xs rs ms es b depth
-facts-of ws xs rs ms es b depth (node l ks) h dp fit =
-    let k = tree-facts ws xs rs ms es b l ks h in
-    let one : countT (node l ks) ≡ suc (countF ks) = countT-node l ks in
-    let wl = h .words-long in
-    let z = simp depthT-node at dp in
-    record {
-      words-some = k .words-some;
-      room = record { rows-some = k .rows-some; marks-some = k .marks-some };
-      rows-long = k .rows-long;
-      marks-long = k .marks-long;
-      deep = omega arith;
-      fit = omega arith;
-      kids = record { forest = ks; tabled = k .kids; deep = omega arith; fit = omega arith };
-    }
-
-pub facts : (ws : List ℕ) (xs rs : List Float) (ms es : List ℕ) (b depth : ℕ) → IsTree ws xs rs ms es b depth → Facts ws xs rs ms es b depth
-facts ws xs rs ms es b depth h = facts-of ws xs rs ms es b depth (h .tree) (h .tabled) (h .deep) (h .fit)
 
 -- the label of a tree that stays
 stay-node : (l : Cell) (ks : Forest Cell) → mapT staying (node l ks) ≡ node (staying l) (mapF staying ks)
@@ -103,10 +51,6 @@ stay-style l = refl
 stay-probe : (l : Cell) → staying l .probe ≡ probeOf (l .old)
 unfolding staying
 stay-probe l = refl
-
-stay-old : (l : Cell) → staying l .old ≡ l .old
-unfolding staying
-stay-old l = refl
 
 pub root-style : (l : Cell) (ks : Forest Cell) → rootT (mapT staying (node l ks)) .site .style ≡ l .site .style
 unfolding rootT staying
@@ -144,14 +88,6 @@ leaf-laid ws xs rs ms es b q found s o rs′ ms′ hs hl ho hp (node l ks) h =
     let fl = flat-leaf (laidRow q o (probeOf (l .old))) (mapF staying ks) (length rs - 16) (length ms - 2) (omega arith) (omega arith) in
     let rw1 : layT (mapT staying (node l ks)) q found .rows ≡ node (laidRow q o (probeOf (l .old))) (zerosF (mapF staying ks)) = ap (λ z. z .rows) lay ∙ leaf-rows (staying l) q (mapF staying ks) ∙ rw (← oo, stay-probe l) refl in
     (oo ∙ sym (ap (λ z. z .out) lay ∙ leaf-out (staying l) q (mapF staying ks)), (p .0 ∙ fl .0 ∙ sym (ap (flatT newNumbers) rw1), p .1 ∙ fl .1 ∙ sym (ap (flatT newWords) rw1)))
-
--- the sizes in the words of a forest's table
-size-map : (f : ℕ → Entry Site) (ts : Forest Cell) (i n : ℕ) → from f i n ≡ flatF siteEntry ts → from (λ k. f k .size) i n ≡ flatF sizeOnly ts
-size-map f ts i n e = sym (map-from f i n) ∙ ap (map (λ (x : Entry Site). x .size)) e ∙ map-entries ts
-
-sizes-of : (ws : List ℕ) (xs : List Float) (es : List ℕ) (b : ℕ) (ts : Forest Cell) → from (siteAt ws xs es b) 0 (countF ts) ≡ flatF siteEntry ts → from (λ n. wordAt ws n 0) 0 (countF ts) ≡ flatF sizeOnly ts
-unfolding siteAt
-sizes-of ws xs es b ts e = size-map (siteAt ws xs es b) ts 0 (countF ts) e
 
 -- step M leaves the words
 lower-words : (d : Float) (r : Row) → rowWords (lowered d r) ≡ rowWords r
@@ -215,7 +151,7 @@ module _ (ws : List ℕ) (xs rs : List Float) (ms es : List ℕ) (b : ℕ) (q : 
         let cc1 : countF (layF (mapF staying ks) f (startOf f) .rows) ≡ countF ks = same-countF _ ks ss in
         record {
           words-long = k .words-long ∙ ap (λ (n : ℕ). 4 * n) (sym cc1);
-          sizes-are = ap (from (λ n. wordAt (take (length ws - 4) (drop 4 ws)) n 0) 0) cc1 ∙ sizes-of (take (length ws - 4) (drop 4 ws)) xs es (b + 1) ks (k .sites-are) ∙ sym ss;
+          sizes-are = ap (from (λ n. wordAt (take (length ws - 4) (drop 4 ws)) n 0) 0) cc1 ∙ sizes-ofF (take (length ws - 4) (drop 4 ws)) xs es (b + 1) ks (k .sites-are) ∙ sym ss;
           rows-are = tail-part 16 rs2 ∙ ap (drop 16) (i .rows2-is) ∙ i .nr-is;
           marks-are = tail-part 2 ms2 ∙ ap (drop 2) (i .marks2-is) ∙ i .nm-is;
         }

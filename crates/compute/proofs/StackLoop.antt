@@ -1,24 +1,24 @@
 -- The loop over the children of a container: what is left of the forest, which still has its old rows, and one turn.
 use mathlib.Core.Path.{_≡_, refl, sym, ap, _∙_}
-use mathlib.Core.List.{List, [], _∷_, _++_, append-assoc}
-use Prim.Native.Nat.{ℕ, zero, suc, _+_, _*_, _-_, _<_, _≤_, max}
+use mathlib.Core.List.{List, [], _++_, append-assoc}
+use Prim.Native.Nat.{ℕ, _+_, _*_, _-_, _<_, _≤_}
 use native.Mathlib.Omega.{arith}
 use lib.ListN.{length, take, drop}
 use lib.Ieee.{Float}
 use borrow.Rule.Slice.PartMut.{putMid}
 use Rattle.style.specs.Style.{wordAt}
-use Rattle.tree.specs.Tree.{Tree, Forest, node, none, more, countT, countF, depthT, depthF, flatT, flatF, mapT, mapF}
-use Rattle.tree.proofs.Laws.{countF-none, flatF-none, flatF-more, mapF-none, mapF-more, depthF-more, length-flatT}
+use Rattle.tree.specs.Tree.{Tree, Forest, node, none, more, countT, depthT, depthF, flatF, mapT, mapF}
+use Rattle.tree.proofs.Laws.{flatF-none, flatF-more, mapF-none, mapF-more, depthF-more, length-flatT}
 use Rattle.steps.specs.Stack.{startOf}
-use Rattle.steps.specs.Row.{Row}
 use Rattle.steps.specs.Page.{Cell, staying}
 use Rattle.steps.specs.Layout.{layF}
 use Rattle.steps.specs.declared.Frame.{Frame}
 use Rattle.steps.specs.declared.Cursor.{Cursor}
+use Rattle.steps.proofs.Clauses.{layF-none}
 use Rattle.walks.specs.Tables.{oldNumbers, oldWords, newNumbers, newWords, TabledT, TabledF}
-use Rattle.walks.proofs.Parts.{Left, Child, child-of, left-begin, left-none, left-some}
-use Rattle.compute.specs.Contract.{Placed, placedT, AreT, AreF}
-use Rattle.compute.proofs.LayClauses.{layF-none, layF-more, andThen, counts-more}
+use Rattle.walks.proofs.Parts.{Left, child-of, left-begin, left-none, left-some}
+use Rattle.compute.specs.Contract.{placedT, AreT, AreF}
+use Rattle.compute.proofs.OneChild.{layF-more, andThen, counts-more}
 use Rattle.compute.proofs.Shape.{sizes-placed, sizes-map, same-countT}
 
 pub record Rest (ws : List ℕ) (xs rs : List Float) (ms es : List ℕ) (b : ℕ) (f : Frame) (ts : Forest Cell) (c : Cursor) (a : ℕ) : Type 0 where

@@ -1,19 +1,19 @@
 -- What the members of the engine's cycle promise: at any tree that has these tables, memory ends as the definition says.
 use mathlib.Core.Path.{_≡_}
 use mathlib.Core.Bool.{Bool, not, _&&_}
-use mathlib.Core.List.{List, [], _∷_, _++_}
-use Prim.Native.Nat.{ℕ, _+_, _*_, _≤_, _-_}
+use mathlib.Core.List.{List, _++_}
+use Prim.Native.Nat.{ℕ, _-_}
 use lib.ListN.{length, replicate}
 use lib.Ieee.{Float}
 use Rattle.geometry.specs.Geometry.{zeroF}
 use Rattle.util.specs.declared.OptionF32.{OptionF32}
-use Rattle.tree.specs.Tree.{Tree, Forest, node, none, more, countT, countF, depthT, depthF, flatT, flatF, mapT, mapF, rootT, onRoot}
+use Rattle.tree.specs.Tree.{Tree, Forest, flatT, flatF, mapT, mapF, rootT, onRoot}
 use Rattle.steps.specs.Width.{flowOf}
 use Rattle.steps.specs.Stack.{startOf, itemOf, stepJ, placeOf, stepped, lineOf, edgesOf, pastAside, pastHidden}
 use Rattle.steps.specs.Row.{Row, rowNumbers, rowWords, hiddenRow, asideRow, laidRow, probeOf, putAt}
 use Rattle.steps.specs.Page.{Cell, Node, staying}
 use Rattle.steps.specs.Kept.{Laid, finalStands, zerosT}
-use Rattle.steps.specs.Layout.{Stacked, alignF, layT, layF, askT}
+use Rattle.steps.specs.Layout.{alignF, layT, layF, askT}
 use Rattle.steps.specs.declared.Flow.{Flow}
 use Rattle.steps.specs.declared.Flow.the-variants.{Gone, Out, In}
 use Rattle.steps.specs.declared.LayoutInput.{LayoutInput}
@@ -21,20 +21,9 @@ use Rattle.steps.specs.declared.LayoutOutput.{LayoutOutput}
 use Rattle.steps.specs.declared.Frame.{Frame}
 use Rattle.steps.specs.declared.Cursor.{Cursor}
 use Rattle.walks.specs.Tables.{newNumbers, newWords, TabledT, TabledF, RowsOf}
+-- some tree, or some forest, has these tables: what a caller has to bring
+pub use Rattle.walks.specs.Tables.{IsTree, IsForest}
 use Rattle.rows.specs.Edited.{touched}
-
--- some tree has these tables; no deeper than `depth`, and its numbers are a page's
-pub record IsTree (ws : List ℕ) (xs rs : List Float) (ms es : List ℕ) (b depth : ℕ) : Type 0 where
-  pub tree : Tree Cell
-  pub tabled : TabledT ws xs rs ms es b tree
-  pub deep : depthT tree ≤ depth
-  pub fit : b + countT tree ≤ 1024
-
-pub record IsForest (ws : List ℕ) (xs rs : List Float) (ms es : List ℕ) (b depth : ℕ) : Type 0 where
-  pub forest : Forest Cell
-  pub tabled : TabledF ws xs rs ms es b forest
-  pub deep : depthF forest ≤ depth
-  pub fit : b + countF forest ≤ 1024
 
 -- one child of the stack: the cursor past it, and its rows
 pub record Placed : Type 0 where

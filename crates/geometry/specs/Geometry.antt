@@ -28,7 +28,3 @@ plus a b =
       bottom = add binary32 (a .bottom) (b .bottom);
       left = add binary32 (a .left) (b .left);
     }
-
--- a rectangle of zeros
-unfoldable pub noRect : Rect
-noRect = record { top = zeroF; right = zeroF; bottom = zeroF; left = zeroF }

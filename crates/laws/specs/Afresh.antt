@@ -8,10 +8,11 @@ use Rattle.steps.specs.Page.{Site, Cell, Node, blank}
 use Rattle.steps.specs.Probe.{widthPass}
 use Rattle.steps.specs.Layout.{layT, relaid, fresh}
 use Rattle.steps.specs.declared.LayoutInput.{LayoutInput}
+use Rattle.steps.proofs.Zeros.{no-row, unprobed}
+use Rattle.steps.proofs.Cells.{pass-cells, cellIn}
 use Rattle.laws.specs.Trees.{AllT, kidsT, all-T, all-any-T, all-kids, all-map-T, all-back-T, settle-T}
-use Rattle.laws.specs.Final.{unmarked, bareN, SoundF, again-T, Unlaid, unlaid-F, no-row}
-use Rattle.laws.specs.Widths.{bareC, cellIn, probeIn, TrueF, AlikeG, pass-alike, Unprobed, unprobed, unprobed-F}
-use Rattle.laws.specs.Cells.{pass-cells}
+use Rattle.laws.specs.Final.{unmarked, bareN, SoundF, again-T, Unlaid, unlaid-F}
+use Rattle.laws.specs.Widths.{bareC, probeIn, TrueF, AlikeG, pass-alike, Unprobed, unprobed-F}
 
 abbrev pub siteIn : Cell → Site
 siteIn c = unmarked (c .site)

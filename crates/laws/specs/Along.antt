@@ -12,19 +12,18 @@ use Rattle.tree.specs.Tree.{Tree, Forest, node, none, more, mapT, mapF, rootT, 
 use Rattle.tree.proofs.Laws.{mapT-node, mapF-more, rootT-node, rootT-map, onRoot-node}
 use Rattle.steps.specs.Width.{isLeaf, flowOf}
 use Rattle.steps.specs.Stack.{startOf, stepJ, itemOf, placeOf, stepped, lineOf, edgesOf, pastAside, pastHidden}
-use Rattle.steps.specs.Height.{finished, leafOutput}
 use Rattle.steps.specs.Row.{Row, Probe, isLaid, noRow, hiddenRow, asideRow, laidRow, putAt}
 use Rattle.steps.specs.Page.{Node}
 use Rattle.steps.specs.Kept.{Laid, zerosT, zerosF}
-use Rattle.steps.specs.Layout.{Stacked, layT, layF, askT, leafLaid, blockLaid, skip, aside, place, lowerF, alignF}
+use Rattle.steps.specs.Layout.{layT, layF, askT, skip, aside, place, lowerF, alignF}
 use Rattle.steps.specs.declared.Flow.{Flow}
 use Rattle.steps.specs.declared.Flow.the-variants.{Gone, Out, In}
 use Rattle.steps.specs.declared.LayoutInput.{LayoutInput}
 use Rattle.steps.specs.declared.Frame.{Frame}
 use Rattle.steps.specs.declared.Cursor.{Cursor}
+use Rattle.steps.proofs.Clauses.{frameAt, styleT, layF-gone, layF-out, layF-in, askT-new, leaf-rows, block-rows, stackOf, shiftOf}
+use Rattle.steps.proofs.Zeros.{unlaid-kept, no-row, zeros-T, zeros-F}
 use Rattle.laws.specs.Trees.{kidsT, firstF, restF}
-use Rattle.laws.specs.Clauses.{frameAt, styleT, layT-leaf, layT-block, layF-gone, layF-out, layF-in, askT-laid}
-use Rattle.laws.specs.Final.{unlaid-kept, no-row, zeros-T, zeros-F}
 use Rattle.laws.specs.Bits.{moved, movedY, movedTo, moved-laid, moved-hidden, moved-aside, laid-row}
 use Rattle.laws.specs.Pages.{Both, siteBy}
 
@@ -48,10 +47,6 @@ unfolding alignF lowerF onRoot
 align-more None (node r ks) ts = refl
 align-more (Some d) (node r ks) ts = refl
 
-pub on-twice : (f g : Row → Row) (u : Tree Row) → onRoot f (onRoot g u) ≡ onRoot (λ (r : Row). f (g r)) u
-unfolding onRoot
-on-twice f g (node r ks) = refl
-
 pub on-zeros : {A : Type 0} (f : Row → Row) (r s : Row) (t : Tree A) → f r ≡ s → onRoot f (onRoot (λ _. r) (zerosT t)) ≡ onRoot (λ _. s) (zerosT t)
 unfolding onRoot zerosT mapT
 on-zeros f r s (node a ks) e = rw e
@@ -62,33 +57,7 @@ unfolding onRoot rootT
 on-laid d p n (node r ks) e = ap (λ (s : Row). node s ks) (moved-laid d p n r e)
 
 pub ask-unlaid : (t : Tree Node) (q : LayoutInput) → isLaid (rootT t .old) ≡ false → askT t q ≡ layT t q zeroF
-ask-unlaid t q e = askT-laid t q (unlaid-kept t q e)
-
--- the rows of a laid node: its own, with its answer, and its children's
-pub leaf-rows : (n : Node) (ks : Forest Node) (q : LayoutInput) (found : Float) → isLeaf (n .site .style .kind) ≡ true
-    → layT (node n ks) q found .rows ≡ node (laidRow q (layT (node n ks) q found .out) (n .probe)) (zerosF ks)
-unfolding leafLaid
-leaf-rows n ks q found e = rw (layT-leaf n ks q found e)
-
-abbrev pub stackOf : Node → Forest Node → LayoutInput → Float → Stacked
-stackOf n ks q found = layF ks (frameAt n q found) (startOf (frameAt n q found))
-
-abbrev pub shiftOf : Node → LayoutInput → Float → Cursor → OptionF32
-shiftOf n q found c = finished (n .site .style) q (frameAt n q found) c .shift
-
-pub block-rows : (n : Node) (ks : Forest Node) (q : LayoutInput) (found : Float) → isLeaf (n .site .style .kind) ≡ false
-    → layT (node n ks) q found .rows ≡ node (laidRow q (layT (node n ks) q found .out) (n .probe)) (alignF (shiftOf n q found (stackOf n ks q found .end)) (stackOf n ks q found .rows))
-unfolding blockLaid
-block-rows n ks q found e = rw (layT-block n ks q found e)
-
-pub leaf-out : (n : Node) (ks : Forest Node) (q : LayoutInput) (found : Float) → isLeaf (n .site .style .kind) ≡ true → layT (node n ks) q found .out ≡ leafOutput (n .site .style .measure) q
-unfolding leafLaid
-leaf-out n ks q found e = rw (layT-leaf n ks q found e)
-
-pub block-out : (n : Node) (ks : Forest Node) (q : LayoutInput) (found : Float) → isLeaf (n .site .style .kind) ≡ false
-    → layT (node n ks) q found .out ≡ finished (n .site .style) q (frameAt n q found) (stackOf n ks q found .end) .output
-unfolding blockLaid
-block-out n ks q found e = rw (layT-block n ks q found e)
+ask-unlaid t q e = askT-new t q (unlaid-kept t q e)
 
 pub root-row : (n : Node) (ks : Forest Node) (q : LayoutInput) (found : Float) → rootT (layT (node n ks) q found .rows) ≡ laidRow q (layT (node n ks) q found .out) (n .probe)
 root-row n ks q found = go (isLeaf (n .site .style .kind)) refl

@@ -9,7 +9,7 @@ use borrow.Author.Tests.{eqb-true}
 use Rattle.geometry.specs.declared.Point.{Point}
 use Rattle.limits.specs.Limits.{sameF}
 use Rattle.limits.specs.Same.{same-is}
-use Rattle.limits.specs.Bools.{beq-is}
+use Rattle.limits.specs.Bools.{beq-is, and-fst, and-snd}
 use Rattle.util.specs.Maybe.{orZero, isSome}
 use Rattle.util.specs.declared.OptionF32.{OptionF32}
 use Rattle.util.specs.declared.OptionF32.the-variants.{None, Some}
@@ -27,7 +27,7 @@ use Rattle.steps.specs.declared.LayoutInput.{LayoutInput}
 use Rattle.steps.specs.declared.LayoutOutput.{LayoutOutput}
 use Rattle.steps.specs.declared.ProbeInput.{ProbeInput}
 use Rattle.steps.specs.declared.Frame.{Frame}
-use Rattle.laws.specs.Trees.{and-fst, and-snd}
+use Rattle.steps.proofs.Codes.{kind-small, code-small}
 
 -- a laid row's bits: through, known height given, and the probe code
 abbrev bitsOf : Bool → Bool → ℕ → ℕ
@@ -96,9 +96,9 @@ words-row q o p h =
     let e : p .code % 16 ≡ p .code = omega arith in
     rw (bits-code (o .through) (isSome (q .known .height)) (p .code), e)
 
-pub code-small : (r : Row) → probeOf r .code < 16
+pub row-small : (r : Row) → probeOf r .code < 16
 unfolding probeOf
-code-small r = omega arith
+row-small r = omega arith
 
 -- with other probe words: a kept row, and one below a kept row
 kept-words : (r : Row) (w p : Probe) (q : LayoutInput) (o : LayoutOutput) (x y : Point) (m n : ℕ) → r ≡ putAt x m (laidRow q o p) → p .code < 16
@@ -197,12 +197,6 @@ code-kind b c e = omega arith
 code-given : (b c : ℕ) → b / 16 % 16 ≡ c → b / 128 % 2 ≡ c / 8
 code-given b c e = omega arith
 
-kind-small : (a : AvailableSpace) → availableKind a < 4
-unfolding availableKind
-kind-small (Definite v) = omega arith
-kind-small MinContent = omega arith
-kind-small MaxContent = omega arith
-
 kind-of : (q : ProbeInput) → probeCode q / 2 % 4 ≡ availableKind (q .available)
 unfolding probeCode
 kind-of q = go (availableKind (q .available)) (isSome (q .height)) (kind-small (q .available))
@@ -220,12 +214,8 @@ given-of q = go (availableKind (q .available)) (isSome (q .height)) (kind-small 
     go k false l = omega arith
 
 pub note-small : (q : ProbeInput) (a : Float) → probeNote q a .code < 16
-unfolding probeNote probeCode
-note-small q a = go (availableKind (q .available)) (isSome (q .height)) (kind-small (q .available))
-  where
-    go : (k : ℕ) (h : Bool) → k < 4 → 1 + 2 * k + 8 * bit h < 16
-    go k true l = omega arith
-    go k false l = omega arith
+unfolding probeNote
+note-small q a = code-small q
 
 space-is : (a b : AvailableSpace) → sameF (orZero (definite a)) (orZero (definite b)) ≡ true → availableKind a ≡ availableKind b → a ≡ b
 unfolding availableKind definite orZero

@@ -22,13 +22,14 @@ use Rattle.steps.specs.declared.Flow.{Flow}
 use Rattle.steps.specs.declared.Flow.the-variants.{Gone, Out, In}
 use Rattle.steps.specs.declared.LayoutInput.{LayoutInput}
 use Rattle.steps.specs.declared.Frame.{Frame}
+use Rattle.steps.proofs.Shape.{mute}
+use Rattle.steps.proofs.Clauses.{styleT}
 use Rattle.laws.specs.Trees.{AllT, topT, kidsT}
-use Rattle.laws.specs.Clauses.{styleT}
 use Rattle.laws.specs.Below.{Two, page1, page2, belowOf, Agree, under, belowT, belowF, belowKept}
 use Rattle.laws.specs.Marks.{marksOf, marksIn, below-none, below-more, below-top, below-leaf, below-block, marks-at, marks-kept, marks-laid}
 use Rattle.laws.specs.Learns.{learns-nothing}
 use Rattle.laws.specs.Parsed.{onLabel, parse-map, parse-same, all-parse}
-use Rattle.laws.specs.Shape.{mute, pass-shape}
+use Rattle.laws.specs.Shape.{pass-shape}
 use Rattle.laws.specs.Entries.{labels-tree}
 use Rattle.laws.specs.Tables.{SameShape, Sound, AgreeAt, belowAt}
 use Rattle.laws.specs.Styles.{same-style}

@@ -1,6 +1,6 @@
 -- Rows that a tree was written to are read back, node by node: the parser gives that tree again.
 use mathlib.Core.Path.{_≡_, refl, sym, ap, _∙_}
-use mathlib.Core.List.{List, [], _∷_, _++_, append-assoc}
+use mathlib.Core.List.{List, [], _∷_, _++_}
 use Prim.Native.Nat.{ℕ, zero, suc, _+_, _*_}
 use native.Mathlib.Omega.{arith}
 use lib.ListN.{length, getD}
@@ -10,28 +10,15 @@ use Rattle.geometry.specs.Geometry.{zeroF}
 use Rattle.tree.specs.Tree.{Tree, Forest, node, none, more, mapT, flatT, flatF, countT, countF}
 use Rattle.tree.specs.Table.{Entry, entryOf, from, parseT}
 use Rattle.tree.proofs.Laws.{flat-mapT, count-mapT}
-use Rattle.tree.proofs.Lists.{from-zero, from-suc, from-shift, length-from}
+use Rattle.tree.proofs.Lists.{from-zero, from-suc, length-from, cons-first, cons-rest, from-next}
 use Rattle.tree.proofs.Parse.{entries-T, parse-is}
 use Rattle.steps.specs.Row.{Row, rowNumbers, rowWords, rowAt}
 use Rattle.steps.specs.Results.{listed, rowsOut, marksOut}
-use Rattle.laws.specs.Shape.{mute}
+use Rattle.steps.proofs.Shape.{mute}
+use Rattle.steps.proofs.Listed.{listed-nil, listed-cons, listed-append}
 use Rattle.laws.specs.Parsed.{from-same}
 
 -- a table of a tree, by its entries
-module _ {A B : Type 0} (g : A → List B) where
-  pub listed-none : listed g [] ≡ []
-  unfolding listed
-  listed-none = refl
-
-  pub listed-more : (a : A) (l : List A) → listed g (a ∷ l) ≡ g a ++ listed g l
-  unfolding listed
-  listed-more a l = refl
-
-  pub listed-append : (l m : List A) → listed g (l ++ m) ≡ listed g l ++ listed g m
-  unfolding listed
-  listed-append [] m = refl
-  listed-append (a ∷ l) m = rw (listed-append l m) (sym (append-assoc (g a) (listed g l) (listed g m)))
-
 module _ {A B : Type 0} (g : ℕ → A → List B) where
   abbrev byEntry : Entry A → List B
   byEntry e = g (e .size) (e .label)
@@ -40,10 +27,10 @@ module _ {A B : Type 0} (g : ℕ → A → List B) where
     unfolding flatT
 
     pub flat-entries-T : (t : Tree A) → flatT g t ≡ listed byEntry (flatT entryOf t)
-    flat-entries-T (node a ks) = ap (λ (l : List B). g (suc (countF ks)) a ++ l) (flat-entries-F ks) ∙ sym (listed-more byEntry _ (flatF entryOf ks))
+    flat-entries-T (node a ks) = ap (λ (l : List B). g (suc (countF ks)) a ++ l) (flat-entries-F ks) ∙ sym (listed-cons byEntry _ (flatF entryOf ks))
 
     pub flat-entries-F : (ts : Forest A) → flatF g ts ≡ listed byEntry (flatF entryOf ts)
-    flat-entries-F none = sym (listed-none byEntry)
+    flat-entries-F none = sym (listed-nil byEntry)
     flat-entries-F (more t ts) = rw (flat-entries-T t, flat-entries-F ts) (sym (listed-append byEntry (flatT entryOf t) (flatF entryOf ts)))
 
 -- sizes go with the shape
@@ -97,15 +84,6 @@ wordsIn l = listed (λ (e : Entry Row). rowWords (e .label)) l
 abbrev readBack : (ℕ → ℕ) → List Float → List ℕ → ℕ → Entry Row
 readBack s xs ys i = record { size = s i; label = rowAt xs ys i }
 
-from-one : {A : Type 0} (f : ℕ → A) (n : ℕ) → from f 1 n ≡ from (λ (k : ℕ). f (suc k)) 0 n
-from-one f n = sym (from-shift (λ (k : ℕ). f (suc k)) f 1 0 n (λ k _. ap f (omega arith)))
-
-cons-first : {A : Type 0} (x y : A) (l m : List A) → x ∷ l ≡ y ∷ m → x ≡ y
-cons-first x y l m e = cc
-
-cons-rest : {A : Type 0} (x y : A) (l m : List A) → x ∷ l ≡ y ∷ m → l ≡ m
-cons-rest x y l m e = cc
-
 same-entry : (s t : ℕ) (a b : Row) → s ≡ t → a ≡ b → _≡_ {A = Entry Row} (record { size = s; label = a }) (record { size = t; label = b })
 same-entry s t a b p q = rw (p, q)
 
@@ -118,17 +96,17 @@ read-more e l s h r =
     let ys = rowWords (e .label) ++ wordsIn l in
     let h1 : s 0 ∷ from s 1 n ≡ e .size ∷ listed sizeIn l = sym (from-suc s 0 n) ∙ h in
     let a : s 0 ≡ e .size = cons-first _ _ _ _ h1 in
-    let b : from (λ (k : ℕ). s (suc k)) 0 n ≡ listed sizeIn l = sym (from-one s n) ∙ cons-rest _ _ _ _ h1 in
+    let b : from (λ (k : ℕ). s (suc k)) 0 n ≡ listed sizeIn l = sym (from-next s 0 n) ∙ cons-rest _ _ _ _ h1 in
     let c : from (λ (k : ℕ). readBack s xs ys (suc k)) 0 n ≡ from (readBack (λ (k : ℕ). s (suc k)) (numbersIn l) (wordsIn l)) 0 n =
     from-same (λ (k : ℕ). readBack s xs ys (suc k)) (readBack (λ (k : ℕ). s (suc k)) (numbersIn l) (wordsIn l)) 0 n (λ k _. same-entry _ _ _ _ refl (row-next (numbersIn l) (wordsIn l) (e .label) k)) in
     from-suc (readBack s xs ys) 0 n ∙ ap (λ (x : Entry Row). x ∷ from (readBack s xs ys) 1 n) (same-entry _ _ _ _ a (row-here (numbersIn l) (wordsIn l) (e .label)))
-    ∙ ap (λ (m : List (Entry Row)). e ∷ m) (from-one (readBack s xs ys) n ∙ c ∙ r (λ (k : ℕ). s (suc k)) b)
+    ∙ ap (λ (m : List (Entry Row)). e ∷ m) (from-next (readBack s xs ys) 0 n ∙ c ∙ r (λ (k : ℕ). s (suc k)) b)
 
 read-back : (l : List (Entry Row)) (s : ℕ → ℕ) → from s 0 (length l) ≡ listed sizeIn l → from (readBack s (numbersIn l) (wordsIn l)) 0 (length l) ≡ l
 read-back [] s h = from-zero (readBack s (numbersIn []) (wordsIn [])) 0
 read-back (e ∷ l) s h =
-    rw (listed-more (λ (x : Entry Row). rowNumbers (x .label)) e l, listed-more (λ (x : Entry Row). rowWords (x .label)) e l)
-    (read-more e l s (h ∙ listed-more sizeIn e l) (λ z q. read-back l z q))
+    rw (listed-cons (λ (x : Entry Row). rowNumbers (x .label)) e l, listed-cons (λ (x : Entry Row). rowWords (x .label)) e l)
+    (read-more e l s (h ∙ listed-cons sizeIn e l) (λ z q. read-back l z q))
 
 -- The rows of a tree of the page's shape, at the page's sizes.
 pub rows-tree : {A : Type 0} (f : ℕ → Entry A) (n : ℕ) (page : Tree A) (rows : Tree Row) → from f 0 n ≡ flatT entryOf page → mapT mute rows ≡ mapT mute page
@@ -158,13 +136,13 @@ module _ {A : Type 0} (d : A) where
       let xs = e .label ∷ labelsIn l in
       let h1 : s 0 ∷ from s 1 n ≡ e .size ∷ listed sizeIn l = sym (from-suc s 0 n) ∙ h in
       let a : s 0 ≡ e .size = cons-first _ _ _ _ h1 in
-      let b : from (λ (k : ℕ). s (suc k)) 0 n ≡ listed sizeIn l = sym (from-one s n) ∙ cons-rest _ _ _ _ h1 in
+      let b : from (λ (k : ℕ). s (suc k)) 0 n ≡ listed sizeIn l = sym (from-next s 0 n) ∙ cons-rest _ _ _ _ h1 in
       from-suc (readAt s xs d) 0 n ∙ ap (λ (x : Entry A). x ∷ from (readAt s xs d) 1 n) (at-entry _ _ _ _ a refl)
-      ∙ ap (λ (m : List (Entry A)). e ∷ m) (from-one (readAt s xs d) n ∙ r (λ (k : ℕ). s (suc k)) b)
+      ∙ ap (λ (m : List (Entry A)). e ∷ m) (from-next (readAt s xs d) 0 n ∙ r (λ (k : ℕ). s (suc k)) b)
 
   label-back : (l : List (Entry A)) (s : ℕ → ℕ) → from s 0 (length l) ≡ listed sizeIn l → from (readAt s (labelsIn l) d) 0 (length l) ≡ l
   label-back [] s h = from-zero (readAt s (labelsIn []) d) 0
-  label-back (e ∷ l) s h = rw (listed-more (λ (x : Entry A). x .label ∷ []) e l) (label-more e l s (h ∙ listed-more sizeIn e l) (λ z q. label-back l z q))
+  label-back (e ∷ l) s h = rw (listed-cons (λ (x : Entry A). x .label ∷ []) e l) (label-more e l s (h ∙ listed-cons sizeIn e l) (λ z q. label-back l z q))
 
   pub labels-tree : {B : Type 0} (f : ℕ → Entry B) (n : ℕ) (page : Tree B) (u : Tree A) → from f 0 n ≡ flatT entryOf page → mapT mute u ≡ mapT mute page
       → parseT (readAt (λ (k : ℕ). f k .size) (flatT (λ (_ : ℕ) (a : A). a ∷ []) u) d) n ≡ u

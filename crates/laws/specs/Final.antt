@@ -1,26 +1,27 @@
 -- The final pass: where every kept node's rows are those it would be laid out with, nothing shows that rows were kept.
 use mathlib.Core.Path.{_≡_, refl, sym, ap, _∙_}
-use mathlib.Core.Bool.{Bool, true, false, not, _&&_}
+use mathlib.Core.Bool.{Bool, true, false}
 use Prim.Native.Nat.{ℕ}
 use lib.Ieee.{Float}
 use Rattle.geometry.specs.Geometry.{zeroF}
 use Rattle.geometry.specs.declared.Point.{Point}
 use Rattle.style.specs.declared.Style.{Style}
 use Rattle.tree.specs.Tree.{Tree, Forest, node, none, more, mapT, mapF, rootT, onRoot}
-use Rattle.tree.proofs.Laws.{mapT-node, mapF-none, mapF-more, rootT-node, rootT-map, map-mapT, map-mapF}
+use Rattle.tree.proofs.Laws.{mapT-node, mapF-none, mapF-more, rootT-node, rootT-map}
 use Rattle.steps.specs.Width.{isLeaf, flowOf}
 use Rattle.steps.specs.Stack.{startOf, stepJ, itemOf, placeOf, stepped, pastAside, pastHidden}
-use Rattle.steps.specs.Row.{isLaid, bare, noRow, putAt}
-use Rattle.steps.specs.Page.{Site, Node, anyT}
-use Rattle.steps.specs.Kept.{Laid, kept, finalStands, editedNode, keep, zerosT, zerosF}
+use Rattle.steps.specs.Row.{isLaid, noRow, putAt}
+use Rattle.steps.specs.Page.{Site, Node}
+use Rattle.steps.specs.Kept.{Laid, kept, keep, zerosT}
 use Rattle.steps.specs.Layout.{Stacked, layT, layF, askT, leafLaid, blockLaid, skip, aside, place}
 use Rattle.steps.specs.declared.Flow.{Flow}
 use Rattle.steps.specs.declared.Flow.the-variants.{Gone, Out, In}
 use Rattle.steps.specs.declared.LayoutInput.{LayoutInput}
 use Rattle.steps.specs.declared.Frame.{Frame}
 use Rattle.steps.specs.declared.Cursor.{Cursor}
-use Rattle.laws.specs.Trees.{AllT, AllF, kidsT, and-false, false-true}
-use Rattle.laws.specs.Clauses.{frameAt, styleT, layT-leaf, layT-block, layF-gone, layF-out, layF-in, askT-kept, askT-laid}
+use Rattle.steps.proofs.Clauses.{frameAt, styleT, layT-leaf, layT-block, layF-gone, layF-out, layF-in, askT-kept, askT-new}
+use Rattle.steps.proofs.Zeros.{zeros-T, zeros-F, no-row, unlaid-kept}
+use Rattle.laws.specs.Trees.{AllT, AllF, kidsT, false-true}
 
 -- a site without its edit mark; a node that keeps nothing
 abbrev pub unmarked : Site → Site
@@ -47,28 +48,11 @@ unfoldable mutual
   SoundF none = Unit {0}
   SoundF (more t ts) = SoundT t × SoundF ts
 
-pub zeros-T : {A B : Type 0} (f : A → B) (t : Tree A) → zerosT (mapT f t) ≡ zerosT t
-unfolding zerosT
-zeros-T f t = map-mapT (λ _. noRow) f t
-
-pub zeros-F : {A B : Type 0} (f : A → B) (ts : Forest A) → zerosF (mapF f ts) ≡ zerosF ts
-unfolding zerosF
-zeros-F f ts = map-mapF (λ _. noRow) f ts
-
--- an old row of zeros is not kept
-pub unlaid-kept : (t : Tree Node) (q : LayoutInput) → isLaid (rootT t .old) ≡ false → kept t q ≡ false
-unfolding kept finalStands
-unlaid-kept t q e = rw e (ap (λ (b : Bool). not (anyT editedNode t) && b) (and-false (not (rootT t .anew))) ∙ and-false (not (anyT editedNode t)))
-
-pub no-row : isLaid noRow ≡ false
-unfolding isLaid noRow bare
-no-row = refl
-
 kept-bare : (t : Tree Node) (q : LayoutInput) → kept (mapT bareN t) q ≡ false
 kept-bare t q = unlaid-kept (mapT bareN t) q (ap (λ (n : Node). isLaid (n .old)) (rootT-map bareN t) ∙ no-row)
 
 pub ask-bare : (t : Tree Node) (q : LayoutInput) → askT (mapT bareN t) q ≡ layT (mapT bareN t) q zeroF
-ask-bare t q = askT-laid (mapT bareN t) q (kept-bare t q)
+ask-bare t q = askT-new (mapT bareN t) q (kept-bare t q)
 
 pub style-bare : (t : Tree Node) → styleT (mapT bareN t) ≡ styleT t
 style-bare t = ap (λ (n : Node). n .site .style) (rootT-map bareN t)
@@ -83,7 +67,7 @@ ask-alike t f h e = go (kept t (stepJ f (styleT t))) refl
   where
     go : (b : Bool) → kept t (stepJ f (styleT t)) ≡ b → Alike (askT t (stepJ f (styleT t))) (layT (mapT bareN t) (stepJ f (styleT t)) zeroF)
     go true q = rw (askT-kept t (stepJ f (styleT t)) q) (sound-root t h f q)
-    go false q = alike-same _ _ (askT-laid t (stepJ f (styleT t)) q ∙ e)
+    go false q = alike-same _ _ (askT-new t (stepJ f (styleT t)) q ∙ e)
 
 -- the same child, then the same rest
 pub placed : (f : Frame) (c : Cursor) (s : Style) (a b : Laid) (g h : Cursor → Stacked) → Alike a b → ((d : Cursor) → g d ≡ h d) → place f c s a g ≡ place f c s b h

@@ -14,19 +14,20 @@ use Rattle.steps.specs.Stack.{startOf, stepJ, itemOf, stepped, lineOf, edgesOf,
 use Rattle.steps.specs.Height.{finished}
 use Rattle.steps.specs.Row.{Row, Probe, bare, hiddenRow, asideRow, laidRow, putAt, probeOf, outputIn}
 use Rattle.steps.specs.Page.{Site, Node}
-use Rattle.steps.specs.Kept.{keep, keptRow, fixT, fixF, zerosT, zerosF}
+use Rattle.steps.specs.Kept.{keep, fixT, fixF, zerosT, zerosF}
 use Rattle.steps.specs.Layout.{layT, layF, skip, aside, place, alignF}
 use Rattle.steps.specs.declared.Flow.{Flow}
 use Rattle.steps.specs.declared.Flow.the-variants.{Gone, Out, In}
 use Rattle.steps.specs.declared.LayoutInput.{LayoutInput}
 use Rattle.steps.specs.declared.Frame.{Frame}
 use Rattle.steps.specs.declared.Cursor.{Cursor}
+use Rattle.steps.proofs.Clauses.{frameAt, layF-gone, layF-out, layF-in, fixT-at, fixF-none, fixF-more, leaf-rows, block-rows, leaf-out, block-out, stackOf, shiftOf, keep-rows}
+use Rattle.steps.proofs.Zeros.{zeros-F}
 use Rattle.laws.specs.Trees.{topT, kidsT}
-use Rattle.laws.specs.Clauses.{frameAt, layF-gone, layF-out, layF-in, fixT-at, fixF-none, fixF-more}
-use Rattle.laws.specs.Final.{Alike, zeros-F}
-use Rattle.laws.specs.Bits.{movedY, kept-row, below-row, out-row, code-small}
+use Rattle.laws.specs.Final.{Alike}
+use Rattle.laws.specs.Bits.{movedY, kept-row, below-row, out-row, row-small}
 use Rattle.laws.specs.Pages.{nowSite, LeavesT, LeavesF}
-use Rattle.laws.specs.Along.{Full, oldF, viewN, RowsT, RowsF, ask-view, own-row, down, along-gone, along-out, along-in, nextFor, leaf-rows, block-rows, leaf-out, block-out, stackOf, shiftOf, gone-rows, out-rows, in-rows, align-none}
+use Rattle.laws.specs.Along.{Full, oldF, viewN, RowsT, RowsF, ask-view, own-row, down, along-gone, along-out, along-in, nextFor, gone-rows, out-rows, in-rows, align-none}
 
 abbrev pub nowF : Full → Style
 nowF l = l .both .now
@@ -48,7 +49,7 @@ abbrev pub siteF : Full → Site
 siteF l = nowSite (l .both)
 
 -- probe words change no answer
-abbrev seenN : Full → Node
+abbrev pub seenN : Full → Node
 seenN = viewN nowF oldWords
 
 abbrev pub afterN : Full → Node
@@ -137,7 +138,7 @@ fix-node : (l : Full) (ks : Forest Full) (q : LayoutInput) (found : Float) (p : 
     → fixF (mapF againN ks) ≡ kidsT (layT (node (afterN l) (mapF afterN ks)) q found .rows) → fixT (mapT againN (node l ks)) ≡ onRoot (putAt p n) (layT (mapT afterN (node l ks)) q found .rows)
 fix-node l ks q found p n e w h =
     ap fixT (mapT-node againN l ks) ∙ fixT-at (againN l) (mapF againN ks) In w
-    ∙ ap (λ (r : Row). node r (fixF (mapF againN ks))) (below-row (againN l) (oldWords l) q _ p n (own-row nowF oldWords l ks q found p n e) (code-small (l .both .old)))
+    ∙ ap (λ (r : Row). node r (fixF (mapF againN ks))) (below-row (againN l) (oldWords l) q _ p n (own-row nowF oldWords l ks q found p n e) (row-small (l .both .old)))
     ∙ ap (node (putAt p n (laidRow q (layT (mapT seenN (node l ks)) q found .out) (l .probe)))) h ∙ sym (ap (onRoot (putAt p n)) (root-after l ks q found) ∙ onRoot-node (putAt p n) _ _)
 
 -- a hidden child and one out of flow keep their rows
@@ -179,10 +180,6 @@ leaves-kids l ks h = h .1
 keep-out : (l : Node) (ks : Forest Node) → keep (node l ks) .out ≡ outputIn (l .old)
 unfolding keep
 keep-out l ks = refl
-
-keep-rows : (l : Node) (ks : Forest Node) → keep (node l ks) .rows ≡ node (keptRow l) (fixF ks)
-unfolding keep
-keep-rows l ks = refl
 
 fix-more : (t : Tree Full) (ts : Forest Full) (d : OptionF32) (f : Frame) (c : Cursor) → RowsF nowF oldWords (more t ts) d f c
     → ((q : LayoutInput) (p : Point) (n : ℕ) → RowsT nowF oldWords t q zeroF p n → flowOf (nowF (rootT t)) ≡ In → fixT (mapT againN t) ≡ onRoot (putAt p n) (layT (mapT afterN t) q zeroF .rows))
@@ -233,6 +230,6 @@ keep-alike l ks q p n e v = record {
     kept-rows : (y : Point) (m : ℕ) → onRoot (putAt y m) (keep (node (againN l) (mapF againN ks)) .rows) ≡ onRoot (putAt y m) (layT (mapT afterN (node l ks)) q zeroF .rows)
     kept-rows y m =
         ap (onRoot (putAt y m)) (keep-rows (againN l) (mapF againN ks)) ∙ onRoot-node (putAt y m) _ _
-        ∙ ap (λ (r : Row). node r (fixF (mapF againN ks))) (kept-row (againN l) (oldWords l) q _ p y n m own (code-small (l .both .old)))
+        ∙ ap (λ (r : Row). node r (fixF (mapF againN ks))) (kept-row (againN l) (oldWords l) q _ p y n m own (row-small (l .both .old)))
         ∙ ap (node (putAt y m (laidRow q (layT (mapT seenN (node l ks)) q zeroF .out) (l .probe)))) kids
         ∙ sym (ap (onRoot (putAt y m)) (root-after l ks q zeroF) ∙ onRoot-node (putAt y m) _ _)

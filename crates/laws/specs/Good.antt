@@ -6,6 +6,7 @@ use lib.Ieee.{Float}
 use Rattle.geometry.specs.Geometry.{zeroF}
 use Rattle.geometry.specs.declared.Point.{Point}
 use Rattle.util.specs.declared.OptionF32.{OptionF32}
+use Rattle.limits.specs.Bools.{and-fst, and-snd, or-left, or-right}
 use Rattle.style.specs.declared.Style.{Style}
 use Rattle.tree.specs.Tree.{Tree, Forest, node, none, more, mapT, mapF, rootT, onRoot}
 use Rattle.tree.proofs.Laws.{mapT-node, mapF-more, map-mapT}
@@ -20,12 +21,13 @@ use Rattle.steps.specs.declared.Flow.the-variants.{Gone, Out, In}
 use Rattle.steps.specs.declared.LayoutInput.{LayoutInput}
 use Rattle.steps.specs.declared.Frame.{Frame}
 use Rattle.steps.specs.declared.Cursor.{Cursor}
-use Rattle.laws.specs.Trees.{AllT, AllF, all-any-F, all-map-T, all-map-F, all-back-T, all-back-F, and-fst, and-snd, not-true, or-left, or-right}
-use Rattle.laws.specs.Final.{bareN, Alike, SoundT, SoundF, Unlaid, unlaid-T, unlaid-F, no-row}
+use Rattle.steps.proofs.Zeros.{no-row}
+use Rattle.laws.specs.Trees.{AllT, AllF, all-any-F, all-map-T, all-map-F, all-back-T, all-back-F, not-true}
+use Rattle.laws.specs.Final.{bareN, Alike, SoundT, SoundF, Unlaid, unlaid-T, unlaid-F}
 use Rattle.laws.specs.Bits.{final-is, hidden-row, aside-row}
 use Rattle.laws.specs.Pages.{siteBy, Honest, LeavesT, LeavesF}
 use Rattle.laws.specs.Along.{Full, oldF, viewN, RowsT, RowsF, own-row, down, down-leaf, along-gone, along-out, along-in}
-use Rattle.laws.specs.Fix.{nowF, wasF, oldWords, againN, afterN, siteF, keep-alike}
+use Rattle.laws.specs.Fix.{nowF, wasF, oldWords, againN, afterN, siteF, keep-alike, seenN}
 
 abbrev pub HonestL : Full → Type 0
 HonestL l = Honest (l .both)
@@ -46,9 +48,6 @@ mutual
 
 abbrev beforeN : Full → Node
 beforeN = viewN wasF oldWords
-
-abbrev seenN : Full → Node
-seenN = viewN nowF oldWords
 
 same-view : (l : Full) → Same l → beforeN l ≡ seenN l
 same-view l e = ap (λ (s : Style). record { site = siteBy (l .both .node) s; old = noRow; probe = oldWords l; anew = false }) e

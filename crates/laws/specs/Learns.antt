@@ -1,16 +1,16 @@
 -- A relayout learns nothing from below a kept node but kind and position: two pages that differ only there have one result.
 use mathlib.Core.Path.{_≡_, refl, sym, ap, _∙_}
-use mathlib.Core.Bool.{Bool, true, false, _||_}
+use mathlib.Core.Bool.{Bool, true, false}
 use lib.Ieee.{Float}
 use Rattle.geometry.specs.Geometry.{zeroF}
 use Rattle.style.specs.declared.Style.{Style}
 use Rattle.style.specs.declared.Kind.{Kind}
 use Rattle.style.specs.declared.Position.{Position}
 use Rattle.tree.specs.Tree.{Tree, Forest, node, none, more, mapT, mapF, rootT}
-use Rattle.tree.proofs.Laws.{mapT-node, mapF-none, mapF-more, rootT-map, map-mapT}
+use Rattle.tree.proofs.Laws.{mapT-node, mapF-none, mapF-more, rootT-map, map-mapT, map-id-T}
 use Rattle.steps.specs.Width.{isLeaf, flowOf, flowBy}
 use Rattle.steps.specs.Stack.{startOf, stepJ}
-use Rattle.steps.specs.Page.{Cell, Node, anyT, anyF}
+use Rattle.steps.specs.Page.{Cell, Node, anyT}
 use Rattle.steps.specs.Probe.{widthPass}
 use Rattle.steps.specs.Kept.{kept, editedNode, keep, keptRow, belowRow, fixT, fixF, zerosT}
 use Rattle.steps.specs.Layout.{layT, layF, askT, leafLaid, blockLaid, place, relaid}
@@ -19,11 +19,11 @@ use Rattle.steps.specs.declared.Flow.the-variants.{Gone, Out, In}
 use Rattle.steps.specs.declared.LayoutInput.{LayoutInput}
 use Rattle.steps.specs.declared.Frame.{Frame}
 use Rattle.steps.specs.declared.Cursor.{Cursor}
-use Rattle.laws.specs.Trees.{AllT, AllF, topT, kidsT, firstF, restF, all-map-T, settle-T, map-id-T, Joint, joint-T}
-use Rattle.laws.specs.Clauses.{frameAt, styleT, layT-leaf, layT-block, layF-gone, layF-out, layF-in, askT-kept, askT-laid, fixT-at, fixF-more}
-use Rattle.laws.specs.Final.{zeros-T, zeros-F, alike-same, placed, skipped, asides}
-use Rattle.laws.specs.Widths.{cellIn}
-use Rattle.laws.specs.Cells.{pass-cells}
+use Rattle.steps.proofs.Clauses.{frameAt, styleT, layT-leaf, layT-block, layF-gone, layF-out, layF-in, askT-kept, askT-new, fixT-at, fixF-more, any-mapT}
+use Rattle.steps.proofs.Zeros.{zeros-T, zeros-F}
+use Rattle.steps.proofs.Cells.{pass-cells, cellIn}
+use Rattle.laws.specs.Trees.{AllT, AllF, topT, kidsT, firstF, restF, all-map-T, settle-T, Joint, joint-T}
+use Rattle.laws.specs.Final.{alike-same, placed, skipped, asides}
 use Rattle.laws.specs.Below.{Two, page1, page2, belowOf, Agree, belowT, belowF, belowKept}
 use Rattle.laws.specs.Marks.{marksOf, below-more, below-top, below-block, marks-at, marks-laid, marks-top}
 use Rattle.laws.specs.Unread.{Given, givenIn, unread-pass}
@@ -57,15 +57,9 @@ unfolding flowOf
 same-flow p h = ap (λ (k : Kind). flowBy k (p .two .one .position)) (h .kind) ∙ ap (λ (x : Position). flowBy (p .two .two .kind) x) (h .position)
 
 -- kept, and the rows of a kept node
-mutual
-  unfolding mapT anyT editedNode
-
-  edits-T : (t : Tree Pair) → anyT editedNode (mapT node1 t) ≡ anyT editedNode (mapT node2 t)
-  edits-T (node p ks) = ap (λ (b : Bool). p .two .edit || b) (edits-F ks)
-
-  edits-F : (ts : Forest Pair) → anyF editedNode (mapF node1 ts) ≡ anyF editedNode (mapF node2 ts)
-  edits-F none = refl
-  edits-F (more t ts) = rw (edits-T t, edits-F ts)
+edits-T : (t : Tree Pair) → anyT editedNode (mapT node1 t) ≡ anyT editedNode (mapT node2 t)
+unfolding editedNode
+edits-T t = any-mapT editedNode node1 t ∙ sym (any-mapT editedNode node2 t)
 
 kept-same : (t : Tree Pair) (q : LayoutInput) → kept (mapT node1 t) q ≡ kept (mapT node2 t) q
 unfolding kept
@@ -153,7 +147,7 @@ module _ (t : Tree Pair) (ts : Forest Pair) (f : Frame) (agree : AllT AgreeP t) 
     where
       go : (b : Bool) → kept (mapT node1 t) (stepJ f (styleT (mapT node1 t))) ≡ b → askT (mapT node1 t) (stepJ f (styleT (mapT node1 t))) ≡ askT (mapT node2 t) (stepJ f (styleT (mapT node1 t)))
       go true b = askT-kept _ _ b ∙ keep-same t agree ∙ sym (askT-kept _ _ (sym (kept-same t _) ∙ b))
-      go false b = askT-laid _ _ b ∙ h _ (marks ∙ marks-at (mapT node1 t) f In w ∙ marks-laid (mapT node1 t) f b) ∙ sym (askT-laid _ _ (sym (kept-same t _) ∙ b))
+      go false b = askT-new _ _ b ∙ h _ (marks ∙ marks-at (mapT node1 t) f In w ∙ marks-laid (mapT node1 t) f b) ∙ sym (askT-new _ _ (sym (kept-same t _) ∙ b))
 
   more-same : ((q : LayoutInput) → mapT belowP t ≡ belowT (mapT node1 t) q zeroF → layT (mapT node1 t) q zeroF ≡ layT (mapT node2 t) q zeroF)
       → (mapF belowP ts ≡ belowF (mapF node1 ts) f → (c : Cursor) → layF (mapF node1 ts) f c ≡ layF (mapF node2 ts) f c) → (c : Cursor) → layF (mapF node1 (more t ts)) f c ≡ layF (mapF node2 (more t ts)) f c

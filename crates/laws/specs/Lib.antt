@@ -1,8 +1,6 @@
-pub mod Clauses
 pub mod Trees
 pub mod Final
 pub mod Widths
-pub mod Cells
 pub mod Afresh
 pub mod Bits
 pub mod Pages

@@ -13,8 +13,8 @@ use Rattle.steps.specs.declared.Flow.{Flow}
 use Rattle.steps.specs.declared.Flow.the-variants.{Gone, Out, In}
 use Rattle.steps.specs.declared.LayoutInput.{LayoutInput}
 use Rattle.steps.specs.declared.Frame.{Frame}
+use Rattle.steps.proofs.Clauses.{byTest, byFlow, styleT}
 use Rattle.laws.specs.Trees.{topT, kidsT}
-use Rattle.laws.specs.Clauses.{byTest, byFlow, styleT}
 use Rattle.laws.specs.Below.{under, belowT, belowF}
 
 -- the marks of a child that is answered

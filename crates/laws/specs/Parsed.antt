@@ -7,6 +7,7 @@ use lib.ListN.{take, drop}
 use Rattle.tree.specs.Tree.{node, mapT, mapF}
 use Rattle.tree.specs.Table.{Entry, from, parseF, parseT}
 use Rattle.tree.proofs.Laws.{mapT-node}
+use Rattle.tree.proofs.Lists.{map-from}
 use Rattle.laws.specs.Trees.{AllT, AllF}
 
 -- an entry with its label changed
@@ -24,11 +25,6 @@ module _ {A B : Type 0} (g : A → B) where
   map-drop (suc n) [] = refl
   map-drop (suc n) (e ∷ l) = map-drop n l
 
-  map-from : (f : ℕ → Entry A) (i n : ℕ) → map (onLabel g) (from f i n) ≡ from (λ (k : ℕ). onLabel g (f k)) i n
-  unfolding from
-  map-from f i zero = refl
-  map-from f i (suc n) = ap (λ (x : List (Entry B)). onLabel g (f i) ∷ x) (map-from f (suc i) n)
-
   parse-mapF : (k : ℕ) (l : List (Entry A)) → mapF g (parseF k l) ≡ parseF k (map (onLabel g) l)
   unfolding parseF mapT
   parse-mapF zero l = refl
@@ -37,7 +33,7 @@ module _ {A B : Type 0} (g : A → B) where
 
   pub parse-map : (f : ℕ → Entry A) (n : ℕ) → mapT g (parseT f n) ≡ parseT (λ (k : ℕ). onLabel g (f k)) n
   unfolding parseT
-  parse-map f n = mapT-node g _ _ ∙ ap (node (g (f 0 .label))) (parse-mapF (n - 1) (from f 1 (n - 1)) ∙ ap (parseF (n - 1)) (map-from f 1 (n - 1)))
+  parse-map f n = mapT-node g _ _ ∙ ap (node (g (f 0 .label))) (parse-mapF (n - 1) (from f 1 (n - 1)) ∙ ap (parseF (n - 1)) (map-from (onLabel g) f 1 (n - 1)))
 
 module _ {A : Type 0} where
   pub from-same : (f g : ℕ → A) (i n : ℕ) → ((k : ℕ) → k < i + n → f k ≡ g k) → from f i n ≡ from g i n

@@ -5,6 +5,7 @@ use lib.Ieee.{Float}
 use Rattle.geometry.specs.Geometry.{zeroF}
 use Rattle.util.specs.declared.OptionF32.{OptionF32}
 use Rattle.util.specs.declared.OptionF32.the-variants.{None, Some}
+use Rattle.limits.specs.Bools.{and-fst, and-snd, or-left, or-right}
 use Rattle.length.specs.declared.AvailableSpace.{AvailableSpace}
 use Rattle.style.specs.declared.Style.{Style}
 use Rattle.tree.specs.Tree.{Tree, Forest, node, none, more, mapT, mapF, rootT}
@@ -12,14 +13,14 @@ use Rattle.tree.proofs.Laws.{mapT-node, mapF-more, map-mapT, map-mapF}
 use Rattle.steps.specs.Width.{isLeaf, stepF}
 use Rattle.steps.specs.Row.{Probe, noRow, noProbe, probeOf, probeNote}
 use Rattle.steps.specs.Page.{Cell, Node, anyT, anyF, edits, cleared, staying, probedAnew}
-use Rattle.steps.specs.Probe.{Probed, Widest, probeStands, answered, stay, probeT, probeF, asked, blockProbe, probeKnown, spaceIn, widen, passBy, widthPass}
+use Rattle.steps.specs.Probe.{Probed, Widest, probeStands, answered, stay, probeT, probeF, asked, blockProbe, probeKnown, spaceIn, widen, passBy, widthPass, askP}
 use Rattle.steps.specs.declared.Want.{Want}
 use Rattle.steps.specs.declared.Want.the-variants.{Nothing, Outer}
 use Rattle.steps.specs.declared.Want.the-variants as want
 use Rattle.steps.specs.declared.ProbeInput.{ProbeInput}
 use Rattle.steps.specs.declared.LayoutInput.{LayoutInput}
-use Rattle.laws.specs.Trees.{AllT, AllF, topT, kidsT, firstF, restF, all-T, all-F, all-any-F, all-any-T, all-map-T, all-map-F, all-back-T, all-back-F, and-fst, and-snd, not-true, or-left, or-right}
-use Rattle.laws.specs.Clauses.{styleC, replyTo, probeT-leaf, probeT-block, probeF-at}
+use Rattle.steps.proofs.Clauses.{styleC, probeT-leaf, probeT-block, probeF-at}
+use Rattle.laws.specs.Trees.{AllT, AllF, topT, kidsT, firstF, restF, all-T, all-F, all-any-F, all-any-T, all-map-T, all-map-F, all-back-T, all-back-F, not-true}
 use Rattle.laws.specs.Widths.{bareC, probeIn, AlikeP, TrueT, TrueF, clear-T, clear-F, bare-reply, Unprobed, unprobed-T, unprobed-F}
 use Rattle.laws.specs.Bits.{probe-is, no-probe}
 use Rattle.laws.specs.Pages.{Both, siteBy, nowSite, wasSite, again, Honest}
@@ -134,8 +135,8 @@ quiet-cleared ts e = quiet-F ts (e ∙ clear-F (mapF beforeC ts) ∙ map-mapF (�
 after-bare : (l : Both) (ks : Forest Both) → mapT bareC (node (again l) (mapF again ks)) ≡ mapT afterC (node l ks)
 after-bare l ks = ap (mapT bareC) (sym (mapT-node again l ks)) ∙ map-mapT bareC again (node l ks)
 
-before-reply : (t : Tree Both) (q : ProbeInput) → replyTo (mapT beforeC t) q ≡ probeT (mapT beforeC t) q
-before-reply t q = ap (λ (u : Tree Cell). replyTo u q) (sym b) ∙ bare-reply (mapT beforeC t) q ∙ ap (λ (u : Tree Cell). probeT u q) b
+before-reply : (t : Tree Both) (q : ProbeInput) → askP (mapT beforeC t) q ≡ probeT (mapT beforeC t) q
+before-reply t q = ap (λ (u : Tree Cell). askP u q) (sym b) ∙ bare-reply (mapT beforeC t) q ∙ ap (λ (u : Tree Cell). probeT u q) b
   where
     b : mapT bareC (mapT beforeC t) ≡ mapT beforeC t
     b = map-mapT bareC beforeC t

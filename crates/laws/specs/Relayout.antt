@@ -14,14 +14,15 @@ use Rattle.steps.specs.Kept.{Laid, zerosT, zerosF}
 use Rattle.steps.specs.Layout.{layT, relaid, fresh}
 use Rattle.steps.specs.declared.LayoutInput.{LayoutInput}
 use Rattle.steps.specs.declared.LayoutOutput.{LayoutOutput}
+use Rattle.steps.proofs.Clauses.{styleT, leaf-rows}
+use Rattle.steps.proofs.Zeros.{zeros-T}
+use Rattle.steps.proofs.Cells.{pass-cells, cellIn}
 use Rattle.laws.specs.Trees.{AllT, AllF, kidsT, all-any-T, all-map-T, all-map-F, all-back-T, settle-T, Joint, joint-T}
-use Rattle.laws.specs.Clauses.{styleT}
-use Rattle.laws.specs.Final.{bareN, SoundF, unlaid-F, zeros-T}
-use Rattle.laws.specs.Widths.{bareC, cellIn, probeIn, TrueF}
-use Rattle.laws.specs.Cells.{pass-cells}
+use Rattle.laws.specs.Final.{bareN, SoundF, unlaid-F}
+use Rattle.laws.specs.Widths.{bareC, probeIn, TrueF}
 use Rattle.laws.specs.Afresh.{siteIn, siteOf, sites-T, Zero, zero-unlaid, bare-relaid, sound-relaid, fresh-bare}
 use Rattle.laws.specs.Pages.{Both, nowSite, wasSite, oldOf, again, Honest, LeavesT}
-use Rattle.laws.specs.Along.{Full, viewN, RowsT, root-row, leaf-rows}
+use Rattle.laws.specs.Along.{Full, viewN, RowsT, root-row}
 use Rattle.laws.specs.Fix.{wasF, oldWords, againN, siteF}
 use Rattle.laws.specs.Good.{HonestL, good-page, Off, off-zeros-F}
 use Rattle.laws.specs.Rides.{WellT, ride-T, pass-well, zero-words}

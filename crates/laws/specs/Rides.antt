@@ -29,13 +29,13 @@ use Rattle.steps.specs.declared.ProbeInput.{ProbeInput}
 use Rattle.steps.specs.declared.LayoutInput.{LayoutInput}
 use Rattle.steps.specs.declared.Frame.{Frame}
 use Rattle.steps.specs.declared.Cursor.{Cursor}
+use Rattle.steps.proofs.Clauses.{styleT, styleC, layF-none, layF-gone, layF-out, layF-in, probeT-leaf, probeT-block, probeF-none, probeF-at, leaf-rows, block-rows}
+use Rattle.steps.proofs.Zeros.{zeros-T, zeros-F}
+use Rattle.steps.proofs.Cells.{cells-T, cellIn}
 use Rattle.laws.specs.Trees.{AllT, AllF, all-any-T, all-any-F, all-back-T, all-back-F, false-true}
-use Rattle.laws.specs.Clauses.{styleT, styleC, layF-none, layF-gone, layF-out, layF-in, probeT-leaf, probeT-block, probeF-none, probeF-at}
-use Rattle.laws.specs.Final.{bareN, ask-bare, style-bare, zeros-T, zeros-F}
-use Rattle.laws.specs.Widths.{bareC, probeIn, cellIn, bare-reply}
-use Rattle.laws.specs.Cells.{cells-T}
+use Rattle.laws.specs.Final.{bareN, ask-bare, style-bare}
+use Rattle.laws.specs.Widths.{bareC, probeIn, bare-reply}
 use Rattle.laws.specs.Bits.{words-row, note-small}
-use Rattle.laws.specs.Along.{leaf-rows, block-rows}
 
 -- a node without probe words
 abbrev Mute : Node → Type 0

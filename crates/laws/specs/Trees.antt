@@ -1,6 +1,6 @@
 -- Trees that agree in parts agree; two trees of one shape are views of one tree. Truth values.
 use mathlib.Core.Path.{_≡_, refl, sym, ap, _∙_}
-use mathlib.Core.Bool.{Bool, true, false, not, _&&_, _||_}
+use mathlib.Core.Bool.{Bool, true, false, not}
 use Prim.Native.Nat.{ℕ}
 use native.Mathlib.Omega.{arith}
 use Rattle.tree.specs.Tree.{Tree, Forest, node, none, more, mapT, mapF}
@@ -19,29 +19,9 @@ abbrev pub restF : {A : Type 0} → Forest A → Forest A
 restF none = none
 restF (more t ts) = ts
 
-pub and-fst : (a b : Bool) → (a && b) ≡ true → a ≡ true
-and-fst true b e = refl
-and-fst false b e = e
-
-pub and-snd : (a b : Bool) → (a && b) ≡ true → b ≡ true
-and-snd true b e = e
-and-snd false b e = cc
-
-pub and-false : (a : Bool) → (a && false) ≡ false
-and-false true = refl
-and-false false = refl
-
 pub not-true : (a : Bool) → not a ≡ true → a ≡ false
 not-true true e = sym e
 not-true false e = refl
-
-pub or-left : (a b : Bool) → (a || b) ≡ false → a ≡ false
-or-left true b e = e
-or-left false b e = refl
-
-pub or-right : (a b : Bool) → (a || b) ≡ false → b ≡ false
-or-right true b e = cc
-or-right false b e = e
 
 pub false-true : {A : Type 0} (b : Bool) → b ≡ false → b ≡ true → A
 false-true b p q =
@@ -174,14 +154,3 @@ module _ {A A′ B J : Type 0} (f : A → B) (f′ : A′ → B) (k : A → A′
     joint-F none (more u us) e = none-some u us e
     joint-F (more t ts) none e = some-none t ts e
     joint-F (more t ts) (more u us) e = joint-more t u ts us (joint-T t u (ap (firstF (mapT f t)) e)) (joint-F ts us (ap restF e))
-
--- a map that changes nothing
-mutual
-  unfolding mapT
-
-  pub map-id-T : {A : Type 0} (t : Tree A) → mapT (λ (a : A). a) t ≡ t
-  map-id-T (node a ks) = ap (node a) (map-id-F ks)
-
-  pub map-id-F : {A : Type 0} (ts : Forest A) → mapF (λ (a : A). a) ts ≡ ts
-  map-id-F none = refl
-  map-id-F (more t ts) = rw (map-id-T t, map-id-F ts)

@@ -1,11 +1,12 @@
 -- The width pass reads no style below a node that the final pass keeps.
 use mathlib.Core.Path.{_≡_, refl, sym, ap, _∙_}
-use mathlib.Core.Bool.{Bool, true, false, not, _||_}
+use mathlib.Core.Bool.{Bool, true, false, not}
 use lib.Ieee.{Float}
 use Rattle.geometry.specs.Geometry.{zeroF}
 use Rattle.util.specs.Math.{larger}
 use Rattle.util.specs.declared.OptionF32.{OptionF32}
 use Rattle.util.specs.declared.OptionF32.the-variants.{None, Some}
+use Rattle.limits.specs.Bools.{and-false}
 use Rattle.length.specs.declared.AvailableSpace.{AvailableSpace}
 use Rattle.style.specs.declared.Style.{Style}
 use Rattle.tree.specs.Tree.{Tree, Forest, node, none, more, mapT, mapF, rootT}
@@ -15,8 +16,8 @@ use Rattle.steps.specs.Sizing.{stepA, knownOf}
 use Rattle.steps.specs.Edges.{isIn, frameOf}
 use Rattle.steps.specs.Stack.{stepJ}
 use Rattle.steps.specs.Row.{Row, Probe, noProbe, probeOf}
-use Rattle.steps.specs.Page.{Cell, Node, anyT, anyF, edits, cleared, staying, probedAnew}
-use Rattle.steps.specs.Probe.{Probed, Widest, Passed, answered, stay, probeT, probeF, asked, blockProbe, probeKnown, spaceIn, widthFrom, widen, passBy, widthPass}
+use Rattle.steps.specs.Page.{Cell, Node, anyT, edits, cleared, staying, probedAnew}
+use Rattle.steps.specs.Probe.{Probed, Widest, Passed, answered, stay, probeT, probeF, asked, blockProbe, probeKnown, spaceIn, widthFrom, widen, passBy, widthPass, askP}
 use Rattle.steps.specs.Kept.{kept, editedNode}
 use Rattle.steps.specs.declared.Flow.{Flow}
 use Rattle.steps.specs.declared.Flow.the-variants.{Gone, Out, In}
@@ -26,10 +27,9 @@ use Rattle.steps.specs.declared.Want.the-variants as want
 use Rattle.steps.specs.declared.ProbeInput.{ProbeInput}
 use Rattle.steps.specs.declared.LayoutInput.{LayoutInput}
 use Rattle.steps.specs.declared.Frame.{Frame}
-use Rattle.laws.specs.Trees.{AllT, AllF, topT, kidsT, firstF, restF, and-false}
-use Rattle.laws.specs.Clauses.{styleT, styleC, replyTo, reply-stays, reply-anew, probeT-leaf, probeT-block, probeF-at}
-use Rattle.laws.specs.Widths.{cellIn}
-use Rattle.laws.specs.Cells.{cells-F}
+use Rattle.steps.proofs.Clauses.{styleT, styleC, askP-stands, askP-anew, probeT-leaf, probeT-block, probeF-at, any-mapT}
+use Rattle.steps.proofs.Cells.{cells-F, cellIn}
+use Rattle.laws.specs.Trees.{AllT, AllF, topT, kidsT, firstF, restF}
 use Rattle.laws.specs.Rides.{probed-in, style-probed}
 use Rattle.laws.specs.Below.{Two, page1, page2, belowOf, Agree, belowT, belowF, belowKept}
 use Rattle.laws.specs.Marks.{marksOf, below-more, below-top, below-leaf, below-block, marks-at, marks-laid, marks-top}
@@ -67,15 +67,9 @@ cleared-F ts =
     ∙ sym (map-mapF givenIn cleared (mapF page2 ts) ∙ map-mapF (λ (_ : Cell). record { probe = noProbe; anew = false }) page2 ts)
 
 -- a probe that stands reads rows and edits alone
-mutual
-  unfolding mapT anyT edits
-
-  edits-T : (t : Tree Two) → anyT edits (mapT page1 t) ≡ anyT edits (mapT page2 t)
-  edits-T (node l ks) = ap (λ (b : Bool). l .edit || b) (edits-F ks)
-
-  edits-F : (ts : Forest Two) → anyF edits (mapF page1 ts) ≡ anyF edits (mapF page2 ts)
-  edits-F none = refl
-  edits-F (more t ts) = rw (edits-T t, edits-F ts)
+edits-T : (t : Tree Two) → anyT edits (mapT page1 t) ≡ anyT edits (mapT page2 t)
+unfolding edits
+edits-T t = any-mapT edits page1 t ∙ sym (any-mapT edits page2 t)
 
 same-old : (t : Tree Two) → rootT (mapT page1 t) .old ≡ rootT (mapT page2 t) .old
 same-old t = ap (λ (c : Cell). c .old) (rootT-map page1 t) ∙ sym (ap (λ (c : Cell). c .old) (rootT-map page2 t))
@@ -208,16 +202,16 @@ module _ (t : Tree Two) (ts : Forest Two) (a : AvailableSpace) (m : Float) (f : 
   one-style : (k : Float) (u : Tree Node) → probeF (more (mapT page1 t) (mapF page1 ts)) a m ≡ widen k u (probeF (mapF page1 ts) a) → styleC (mapT page1 t) ≡ styleC (mapT page2 t)
   one-style k u p = same-style t agree (top-below t _ (child-marks k u p) (marks-top u f))
 
-  reply-same : (q : ProbeInput) → stepF (styleC (mapT page1 t)) a ≡ want.Probe q → mapT belowOf t ≡ marksOf (replyTo (mapT page1 t) q .nodes) f
+  reply-same : (q : ProbeInput) → stepF (styleC (mapT page1 t)) a ≡ want.Probe q → mapT belowOf t ≡ marksOf (askP (mapT page1 t) q .nodes) f
       → ((g : LayoutInput) → mapT belowOf t ≡ belowT (probeT (mapT page1 t) q .nodes) g zeroF → AlikeP (probeT (mapT page1 t) q) (probeT (mapT page2 t) q))
-      → AlikeP (replyTo (mapT page1 t) q) (replyTo (mapT page2 t) q)
+      → AlikeP (askP (mapT page1 t) q) (askP (mapT page2 t) q)
   reply-same q w d ht = go (answered (mapT page1 t) q) refl
     where
-      go : (b : Bool) → answered (mapT page1 t) q ≡ b → AlikeP (replyTo (mapT page1 t) q) (replyTo (mapT page2 t) q)
-      go true b = rw (reply-stays (mapT page1 t) q b, reply-stays (mapT page2 t) q (sym (answered-same t q) ∙ b)) (stay-same t)
+      go : (b : Bool) → answered (mapT page1 t) q ≡ b → AlikeP (askP (mapT page1 t) q) (askP (mapT page2 t) q)
+      go true b = rw (askP-stands (mapT page1 t) q b, askP-stands (mapT page2 t) q (sym (answered-same t q) ∙ b)) (stay-same t)
       go false b =
-          let d1 : mapT belowOf t ≡ marksOf (probeT (mapT page1 t) q .nodes) f = d ∙ ap (λ (x : Probed). marksOf (x .nodes) f) (reply-anew (mapT page1 t) q b) in
-          rw (reply-anew (mapT page1 t) q b, reply-anew (mapT page2 t) q (sym (answered-same t q) ∙ b)) (ht _ (d1 ∙ anew-marks (mapT page1 t) a q f w))
+          let d1 : mapT belowOf t ≡ marksOf (probeT (mapT page1 t) q .nodes) f = d ∙ ap (λ (x : Probed). marksOf (x .nodes) f) (askP-anew (mapT page1 t) q b) in
+          rw (askP-anew (mapT page1 t) q b, askP-anew (mapT page2 t) q (sym (answered-same t q) ∙ b)) (ht _ (d1 ∙ anew-marks (mapT page1 t) a q f w))
 
   more-same : ((q : ProbeInput) (g : LayoutInput) → mapT belowOf t ≡ belowT (probeT (mapT page1 t) q .nodes) g zeroF → AlikeP (probeT (mapT page1 t) q) (probeT (mapT page2 t) q))
       → ((k : Float) → mapF belowOf ts ≡ belowF (probeF (mapF page1 ts) a k .nodes) f → AlikeW (probeF (mapF page1 ts) a k) (probeF (mapF page2 ts) a k))
@@ -239,7 +233,7 @@ module _ (t : Tree Two) (ts : Forest Two) (a : AvailableSpace) (m : Float) (f : 
           let s = one-style _ _ p in
           let h = reply-same q d (child-marks _ _ p) (λ g x. ht q g x) in
           rw (p, probeF-at (mapT page2 t) (mapF page2 ts) a m (want.Probe q) (also _ _ (want.Probe q) p d))
-          (widen-same _ _ _ _ _ _ (ap (λ (v : Float). larger m (outerWidth (styleC (mapT page1 t)) a v)) (h .same-answer) ∙ ap (λ (z : Style). larger m (outerWidth z a (replyTo (mapT page2 t) q .answer))) s) (h .same-given) (hts _ (rest-marks _ _ p)))
+          (widen-same _ _ _ _ _ _ (ap (λ (v : Float). larger m (outerWidth (styleC (mapT page1 t)) a v)) (h .same-answer) ∙ ap (λ (z : Style). larger m (outerWidth z a (askP (mapT page2 t) q .answer))) s) (h .same-given) (hts _ (rest-marks _ _ p)))
 
 none-same : (a : AvailableSpace) (m : Float) → AlikeW (probeF (mapF page1 none) a m) (probeF (mapF page2 none) a m)
 unfolding mapF

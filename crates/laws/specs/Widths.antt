@@ -1,6 +1,6 @@
 -- The width pass: where every probe that stands holds what it would find, nothing shows that probes stood.
 use mathlib.Core.Path.{_≡_, refl, sym, ap, _∙_}
-use mathlib.Core.Bool.{Bool, true, false, not}
+use mathlib.Core.Bool.{Bool, true, false}
 use lib.Ieee.{Float}
 use Rattle.geometry.specs.Geometry.{zeroF}
 use Rattle.util.specs.Math.{larger}
@@ -8,19 +8,20 @@ use Rattle.util.specs.declared.OptionF32.{OptionF32}
 use Rattle.util.specs.declared.OptionF32.the-variants.{None, Some}
 use Rattle.length.specs.declared.AvailableSpace.{AvailableSpace}
 use Rattle.style.specs.declared.Style.{Style}
-use Rattle.tree.specs.Tree.{Tree, Forest, node, none, more, mapT, mapF, rootT}
+use Rattle.tree.specs.Tree.{Tree, Forest, node, none, more, mapT, mapF}
 use Rattle.tree.proofs.Laws.{mapT-node, mapF-none, mapF-more, rootT-node, rootT-map, map-mapT, map-mapF}
 use Rattle.steps.specs.Width.{isLeaf, stepF, outerWidth}
-use Rattle.steps.specs.Row.{Row, Probe, noRow, bare, noProbe}
-use Rattle.steps.specs.Page.{Cell, Node, anyT, edits, cleared, probedAnew}
-use Rattle.steps.specs.Probe.{Probed, Widest, Passed, probeStands, answered, stay, probeT, probeF, asked, blockProbe, probeKnown, spaceIn, widthFrom, widen, passBy, widthPass}
+use Rattle.steps.specs.Row.{Probe, noRow, noProbe}
+use Rattle.steps.specs.Page.{Cell, Node, cleared, probedAnew}
+use Rattle.steps.specs.Probe.{Probed, Widest, Passed, probeStands, answered, stay, probeT, probeF, asked, blockProbe, probeKnown, spaceIn, widthFrom, widen, passBy, widthPass, askP}
 use Rattle.steps.specs.declared.Want.{Want}
 use Rattle.steps.specs.declared.Want.the-variants.{Nothing, Outer}
 use Rattle.steps.specs.declared.Want.the-variants as want
 use Rattle.steps.specs.declared.ProbeInput.{ProbeInput}
 use Rattle.steps.specs.declared.LayoutInput.{LayoutInput}
-use Rattle.laws.specs.Trees.{AllT, AllF, and-false, false-true}
-use Rattle.laws.specs.Clauses.{styleC, replyTo, reply-stays, reply-anew, probeT-leaf, probeT-block, probeF-at}
+use Rattle.steps.proofs.Clauses.{styleC, askP-stands, askP-anew, probeT-leaf, probeT-block, probeF-at}
+use Rattle.steps.proofs.Zeros.{unprobed, not-answered}
+use Rattle.laws.specs.Trees.{AllT, AllF, false-true}
 use Rattle.laws.specs.Final.{unmarked}
 
 -- a cell without old row and mark; the parts of a node
@@ -29,9 +30,6 @@ bareC c = record { site = unmarked (c .site); old = noRow }
 
 abbrev pub probeIn : Node → Probe
 probeIn n = n .probe
-
-abbrev pub cellIn : Node → Cell
-cellIn n = record { site = n .site; old = n .old }
 
 -- the same answer and the same probe words
 pub record AlikeP (a b : Probed) : Type 0 where
@@ -66,17 +64,8 @@ cleared-T f t = clear-T (mapT f t) ∙ map-mapT (λ (_ : Cell). noProbe) f t ∙
 pub cleared-F : (f : Cell → Cell) (ts : Forest Cell) → mapF probeIn (mapF cleared (mapF f ts)) ≡ mapF probeIn (mapF cleared ts)
 cleared-F f ts = clear-F (mapF f ts) ∙ map-mapF (λ (_ : Cell). noProbe) f ts ∙ sym (clear-F ts)
 
--- old rows of zeros answer no probe
-pub unprobed : (q : ProbeInput) (r : Row) → r ≡ noRow → probeStands q r ≡ false
-unfolding probeStands noRow bare
-unprobed q r e = rw e
-
-pub not-answered : (t : Tree Cell) (q : ProbeInput) → probeStands q (rootT t .old) ≡ false → answered t q ≡ false
-unfolding answered
-not-answered t q e = rw e (and-false (not (anyT edits t)))
-
-pub bare-reply : (t : Tree Cell) (q : ProbeInput) → replyTo (mapT bareC t) q ≡ probeT (mapT bareC t) q
-bare-reply t q = reply-anew (mapT bareC t) q (not-answered (mapT bareC t) q (unprobed q _ (ap (λ (c : Cell). c .old) (rootT-map bareC t))))
+pub bare-reply : (t : Tree Cell) (q : ProbeInput) → askP (mapT bareC t) q ≡ probeT (mapT bareC t) q
+bare-reply t q = askP-anew (mapT bareC t) q (not-answered (mapT bareC t) q (unprobed q _ (ap (λ (c : Cell). c .old) (rootT-map bareC t))))
 
 style-bare : (t : Tree Cell) → styleC (mapT bareC t) ≡ styleC t
 style-bare t = ap (λ (c : Cell). c .site .style) (rootT-map bareC t)
@@ -85,12 +74,12 @@ true-root : (t : Tree Cell) → TrueT t → (q : ProbeInput) → answered t q �
 unfolding TrueT
 true-root (node l ks) h q e = h .0 q e
 
-reply-alike : (t : Tree Cell) (q : ProbeInput) → TrueT t → AlikeP (probeT t q) (probeT (mapT bareC t) q) → AlikeP (replyTo t q) (replyTo (mapT bareC t) q)
+reply-alike : (t : Tree Cell) (q : ProbeInput) → TrueT t → AlikeP (probeT t q) (probeT (mapT bareC t) q) → AlikeP (askP t q) (askP (mapT bareC t) q)
 reply-alike t q h e = rw (bare-reply t q) (go (answered t q) refl)
   where
-    go : (b : Bool) → answered t q ≡ b → AlikeP (replyTo t q) (probeT (mapT bareC t) q)
-    go true p = rw (reply-stays t q p) (true-root t h q p)
-    go false p = rw (reply-anew t q p) e
+    go : (b : Bool) → answered t q ≡ b → AlikeP (askP t q) (probeT (mapT bareC t) q)
+    go true p = rw (askP-stands t q p) (true-root t h q p)
+    go false p = rw (askP-anew t q p) e
 
 -- a container put to a probe
 asked-alike : (l : Cell) (q : ProbeInput) (a b : Float) (ks us : Forest Node) → a ≡ b → mapF probeIn ks ≡ mapF probeIn us → AlikeP (asked l q a ks) (asked (bareC l) q b us)
@@ -117,7 +106,7 @@ pub widen-alike : (m n : Float) (t u : Tree Node) (g h : Float → Widest) → m
 unfolding widen mapF
 widen-alike m n t u g h p e r = record { same-most = rw p (r n .same-most); same-words = rw (p, e, r n .same-words) }
 
-more-alike : (t : Tree Cell) (ts : Forest Cell) (a : AvailableSpace) (m : Float) → ((q : ProbeInput) → AlikeP (replyTo t q) (replyTo (mapT bareC t) q))
+more-alike : (t : Tree Cell) (ts : Forest Cell) (a : AvailableSpace) (m : Float) → ((q : ProbeInput) → AlikeP (askP t q) (askP (mapT bareC t) q))
     → ((k : Float) → AlikeW (probeF ts a k) (probeF (mapF bareC ts) a k)) → AlikeW (probeF (more t ts) a m) (probeF (mapF bareC (more t ts)) a m)
 more-alike t ts a m h r = rw (mapF-more bareC t ts) (go (stepF (styleC t) a) refl)
   where

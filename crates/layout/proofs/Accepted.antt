@@ -1,34 +1,25 @@
 -- Tables that pass the tests are the tables of a page with its old rows, and there is room for its records.
-use mathlib.Core.Path.{_≡_, refl, sym, ap, _∙_}
-use mathlib.Core.Bool.{Bool, true, false, not, _||_}
-use mathlib.Core.List.{List, [], _∷_, _++_, map}
-use Prim.Native.Nat.{ℕ, zero, suc, _+_, _*_, _/_, _<_, _≤_, min}
+use mathlib.Core.Path.{_≡_, refl}
+use mathlib.Core.Bool.{false, not, _||_}
+use mathlib.Core.List.{List, []}
+use Prim.Native.Nat.{ℕ, _*_, _/_, _≤_, min}
 use native.Mathlib.Omega.{arith}
-use lib.ListN.{length, getD, take, drop, replicate, take-append-drop, drop-of-length-le}
-use lib.Seq.{getD-drop, drop-drop}
+use lib.ListN.{length}
 use lib.Dec.{eqb, ltb}
 use lib.Ieee.{Float}
 use borrow.Author.Tests.{ltb-false, eqb-true, not-false}
-use Rattle.geometry.specs.Geometry.{zeroF}
-use Rattle.tree.specs.Tree.{Tree, Forest, node, none, more, countT, countF, depthT, depthF, flatT, flatF, mapT, mapF}
-use Rattle.tree.specs.Table.{Entry, entryOf, from, parseT}
-use Rattle.tree.proofs.Laws.{count-mapT, flat-mapT, map-mapT, depthT-node, depthF-none, depthF-more, mapT-node, mapF-none, mapF-more}
-use Rattle.steps.specs.Width.{flowOf}
-use Rattle.steps.specs.Row.{Row, rowNumbers, rowWords, rowAt, noRow, bare}
-use Rattle.steps.specs.Page.{Site, Cell, named, siteAt, cellAt, nodesIn, pageOf, cellsOf, blank}
+use Rattle.limits.specs.Bools.{or-left, or-right}
+use Rattle.tree.specs.Tree.{Tree, Forest, node, none, more, mapT, mapF}
+use Rattle.steps.specs.Page.{Site, Cell, nodesIn, pageOf}
 use Rattle.steps.specs.Candidates.{neededT, neededF, needed}
-use Rattle.steps.specs.Noes.{badTables, badRows, recordsIn, refuseIf, andThen, no5, no6, no7, pageTested, layoutTested, relayoutTested}
-use Rattle.steps.specs.Results.{listed}
+use Rattle.steps.specs.Noes.{badTables, badRows, recordsIn, refuseIf, no5, pageTested, layoutTested, relayoutTested}
 use Rattle.steps.specs.declared.LayoutInput.{LayoutInput}
 use Rattle.steps.specs.declared.Answer.the-variants.{Lengths, Room}
-use Rattle.steps.specs.declared.Tested.{Tested}
 use Rattle.steps.specs.declared.Tested.the-variants.{Pass}
-use Rattle.walks.specs.Tables.{siteEntry, oldNumbers, oldWords, TabledT}
+pub use Rattle.laws.specs.Final.{unmarked}
 use Rattle.tables.specs.TreeCheck.{GoodTable}
-use Rattle.tables.proofs.Counting.{or-no-1, or-no-2}
 use Rattle.tables.proofs.Passing.{sized, then-pass-1, then-pass-2, if-pass, good-table}
-use Rattle.tables.proofs.GoodPage.{good-page, good-cells, parse-relabel, page-of-cells}
-use Rattle.layout.specs.Public.{plainSite, RoomOf, IsCells}
+use Rattle.layout.specs.Public.{plainSite, RoomOf}
 
 -- what tables have that pass the tests of a layout
 pub record Passes (ws : List ℕ) (xs rs : List Float) (ms cw : List ℕ) (cx : List Float) : Type 0 where
@@ -41,7 +32,7 @@ pub record Passes (ws : List ℕ) (xs rs : List Float) (ms cw : List ℕ) (cx : 
 rows-fit : (ws : List ℕ) (rs : List Float) (ms : List ℕ) → badRows ws rs ms ≡ false → (length rs ≡ 16 * nodesIn ws) × (length ms ≡ 2 * nodesIn ws)
 unfolding badRows
 rows-fit ws rs ms e =
-    (eqb-true _ _ (not-false _ (or-no-1 (not (eqb (length rs) (16 * nodesIn ws))) _ e)), eqb-true _ _ (not-false _ (or-no-2 (not (eqb (length rs) (16 * nodesIn ws))) _ e)))
+    (eqb-true _ _ (not-false _ (or-left (not (eqb (length rs) (16 * nodesIn ws))) _ e)), eqb-true _ _ (not-false _ (or-right (not (eqb (length rs) (16 * nodesIn ws))) _ e)))
 
 room-fits : (ws : List ℕ) (xs : List Float) (cw : List ℕ) (cx : List Float) → no5 ws xs cw cx ≡ Pass → needed (pageOf ws xs []) ≤ min (length cw / 2) (length cx / 3)
 unfolding no5
@@ -52,8 +43,8 @@ unfolding layoutTested
 passes ws xs rs ms cw cx q e =
     let b = if-pass (badTables ws xs || badRows ws rs ms) Lengths (then-pass-1 (refuseIf (badTables ws xs || badRows ws rs ms) Lengths) _ e) in
     let r = then-pass-2 (refuseIf (badTables ws xs || badRows ws rs ms) Lengths) _ e in
-    let t = or-no-1 (badTables ws xs) _ b in
-    let f = rows-fit ws rs ms (or-no-2 (badTables ws xs) _ b) in
+    let t = or-left (badTables ws xs) _ b in
+    let f = rows-fit ws rs ms (or-right (badTables ws xs) _ b) in
     record {
       good = good-table ws xs q t (then-pass-1 (pageTested ws xs q) _ r);
       words-long = sized ws xs t .words;
@@ -82,16 +73,5 @@ module _ (g : Site → Site) (h : (s : Site) → g s .style ≡ s .style) where
   unfolding needed mapT
   same-need (node s ks) = same-need-F ks
 
-abbrev pub unmarked : Site → Site
-unmarked s = record { node = s .node; style = s .style; edit = false }
-
 pub room-for : (t : Tree Cell) (n : ℕ) (cw : List ℕ) (cx : List Float) → needed (mapT plainSite t) ≡ n → n ≤ min (length cw / 2) (length cx / 3) → RoomOf t cw cx
 room-for t n cw cx e h = record { pairs-room = omega (arith, e, h); triples-room = omega (arith, e, h) }
-
-mutual
-  pub depth-mapT : {A B : Type 0} (f : A → B) (t : Tree A) → depthT (mapT f t) ≡ depthT t
-  depth-mapT f (node a ks) = rw (mapT-node f a ks, depthT-node, depthT-node, depth-mapF f ks)
-
-  depth-mapF : {A B : Type 0} (f : A → B) (ts : Forest A) → depthF (mapF f ts) ≡ depthF ts
-  depth-mapF f none = rw (mapF-none f, depthF-none, depthF-none)
-  depth-mapF f (more t ts) = rw (mapF-more f t ts, depthF-more, depthF-more, depth-mapT f t, depth-mapF f ts)

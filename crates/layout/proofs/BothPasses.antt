@@ -1,60 +1,37 @@
 -- The two passes one after the other are a relayout.
 use mathlib.Core.Path.{_≡_, refl, sym, ap, _∙_}
-use mathlib.Core.List.{List, [], _∷_, _++_, map}
-use Prim.Native.Nat.{ℕ, zero, suc, _+_, _*_, _≤_}
+use mathlib.Core.List.{List}
+use Prim.Native.Nat.{ℕ, _*_}
 use native.Mathlib.Omega.{arith}
-use lib.ListN.{length, replicate}
+use lib.ListN.{length}
 use lib.Ieee.{Float}
 use Rattle.style.specs.Style.{wordAt}
-use Rattle.tree.specs.Tree.{Tree, Forest, node, none, more, countT, countF, depthT, flatT, flatF, mapT}
-use Rattle.tree.specs.Table.{Entry, from}
+use Rattle.tree.specs.Tree.{Tree, countT, mapT}
+use Rattle.tree.specs.Table.{from}
 use Rattle.tree.proofs.Laws.{length-flatT}
-use Rattle.steps.specs.Row.{Row, rowNumbers, rowWords}
-use Rattle.steps.specs.Page.{Site, Cell, siteAt, staying}
+use Rattle.steps.specs.Row.{Row}
+use Rattle.steps.specs.Page.{Cell, staying}
 use Rattle.steps.specs.Probe.{widthPass}
 use Rattle.steps.specs.Kept.{Laid}
 use Rattle.steps.specs.Layout.{layT, relaid}
-use Rattle.steps.specs.Candidates.{candidates, needed}
+use Rattle.steps.specs.Candidates.{candidates}
 use Rattle.steps.specs.Noes.{badRow}
 use Rattle.steps.specs.Scan.{lowest}
-use Rattle.steps.specs.Results.{Reply, rowsOut, replied, overLimit, accepted}
+use Rattle.steps.specs.Results.{rowsOut, replied, overLimit}
 use Rattle.steps.specs.declared.LayoutInput.{LayoutInput}
 use Rattle.steps.specs.declared.LayoutOutput.{LayoutOutput}
 use Rattle.steps.specs.declared.Answer.{Answer}
 use Rattle.steps.specs.declared.Found.{Found}
 use Rattle.steps.specs.declared.Found.the-variants.{Nowhere, At}
-use Rattle.walks.specs.Tables.{siteEntry, oldNumbers, oldWords, newNumbers, newWords, sizeOnly, TabledT}
+use Rattle.walks.specs.Tables.{oldNumbers, oldWords, newNumbers, newWords, TabledT}
+use Rattle.walks.proofs.Sizes.{sizes-ofT}
 use Rattle.compute.proofs.Shape.{sizesT, same-countT, sizes-map, sizes-layT}
 use Rattle.compute.specs.Contract as compute
 use Rattle.probing.specs.Contract as probing
 use Rattle.probing.proofs.Between.{leftBy, relaid-left, left-count, left-depth, left-tabled}
 use Rattle.candidates.specs.Gathered.{RowsOfT, RoomFor}
-use Rattle.layout.specs.Public.{Replied, IsPage, Finishes, plainSite, RoomOf, IsCells, Relays}
+use Rattle.layout.specs.Public.{IsPage, Finishes, RoomOf, IsCells, Relays}
 use Rattle.layout.proofs.Count.{few-candidates}
-
--- the sizes in the words of a tree's table
-map-from : (f : ℕ → Entry Site) (i n : ℕ) → map (λ (x : Entry Site). x .size) (from f i n) ≡ from (λ k. f k .size) i n
-unfolding from
-map-from f i zero = refl
-map-from f i (suc n) = ap (λ (l : List ℕ). f i .size ∷ l) (map-from f (suc i) n)
-
-map-append : (l m : List (Entry Site)) → map (λ (x : Entry Site). x .size) (l ++ m) ≡ map (λ (x : Entry Site). x .size) l ++ map (λ (x : Entry Site). x .size) m
-map-append [] m = refl
-map-append (x ∷ l) m = ap (λ (z : List ℕ). x .size ∷ z) (map-append l m)
-
-mutual
-  unfolding flatT
-
-  map-entriesT : (t : Tree Cell) → map (λ (x : Entry Site). x .size) (flatT siteEntry t) ≡ flatT sizeOnly t
-  map-entriesT (node l ks) = ap (λ (z : List ℕ). suc (countF ks) ∷ z) (map-entries ks)
-
-  map-entries : (ts : Forest Cell) → map (λ (x : Entry Site). x .size) (flatF siteEntry ts) ≡ flatF sizeOnly ts
-  map-entries none = refl
-  map-entries (more t ts) = map-append (flatT siteEntry t) (flatF siteEntry ts) ∙ rw (map-entriesT t, map-entries ts)
-
-sizes-of : (ws : List ℕ) (xs : List Float) (es : List ℕ) (t : Tree Cell) → from (siteAt ws xs es 0) 0 (countT t) ≡ flatT siteEntry t → from (λ n. wordAt ws n 0) 0 (countT t) ≡ flatT sizeOnly t
-unfolding siteAt
-sizes-of ws xs es t e = sym (map-from (siteAt ws xs es 0) 0 (countT t)) ∙ ap (map (λ (x : Entry Site). x .size)) e ∙ map-entriesT t
 
 -- a relayout keeps the shape
 relaid-sizes : (t : Tree Cell) (q : LayoutInput) → sizesT (relaid t q .rows) ≡ sizesT (leftBy t q)
@@ -89,7 +66,7 @@ module _ (ws : List ℕ) (xs rs : List Float) (ms es : List ℕ) (q : LayoutInpu
         let c : countT (relaid t q .rows) ≡ countT (leftBy t q) = same-countT (relaid t q .rows) (leftBy t q) (relaid-sizes t q) in
         record {
           words-long = h .words-long ∙ ap (λ (k : ℕ). 4 * k) (sym n);
-          sizes-are = ap (from (λ k. wordAt ws k 0) 0) c ∙ sizes-of ws xs es (leftBy t q) (left-table t h .sites-are) ∙ sym (relaid-sizes t q);
+          sizes-are = ap (from (λ k. wordAt ws k 0) 0) c ∙ sizes-ofT ws xs es 0 (leftBy t q) (left-table t h .sites-are) ∙ sym (relaid-sizes t q);
           rows-are = relaid-rows t h .0;
           marks-are = relaid-rows t h .1;
         }

@@ -1,8 +1,8 @@
 -- The room that refusal 5 asks for holds every record: no layout or relayout has more candidates than are needed.
 use mathlib.Core.Path.{_≡_, refl, sym, ap, _∙_}
 use mathlib.Core.Bool.{Bool, true, false, cond, not}
-use mathlib.Core.List.{List, [], _∷_, _++_, map}
-use Prim.Native.Nat.{ℕ, zero, suc, _+_, _*_, _/_, _%_, _≤_}
+use mathlib.Core.List.{List, [], _∷_, map}
+use Prim.Native.Nat.{ℕ, suc, _+_, _*_, _/_, _%_, _≤_}
 use native.Mathlib.Omega.{arith}
 use lib.ListN.{length, length-append, length-map}
 use lib.Dec.{eqb}
@@ -11,16 +11,14 @@ use Rattle.geometry.specs.Geometry.{zeroF}
 use Rattle.geometry.specs.declared.Point.{Point}
 use Rattle.util.specs.declared.OptionF32.{OptionF32}
 use Rattle.util.specs.declared.OptionF32.the-variants.{None, Some}
+use Rattle.limits.specs.Bools.{and-fst, and-snd}
 use Rattle.tree.specs.Tree.{Tree, Forest, node, none, more, countT, mapT, mapF, onRoot, rootT}
-use Rattle.tree.proofs.Laws.{mapT-node, mapF-none, mapF-more}
-use Rattle.style.specs.Codes.{flagAt}
 use Rattle.steps.specs.Width.{isLeaf, flowOf}
-use Rattle.steps.specs.Stack.{startOf, stepJ, itemOf, placeOf, stepped, edgesOf, lineOf, pastAside, pastHidden}
-use Rattle.steps.specs.Edges.{frameOf}
-use Rattle.steps.specs.Row.{Row, bare, noRow, hiddenRow, asideRow, laidRow, noted, withCode, putAt, lowered, isLaid, isOut}
-use Rattle.steps.specs.Page.{Site, Cell, Node, anyT}
+use Rattle.steps.specs.Stack.{stepJ, itemOf, placeOf, stepped, edgesOf, lineOf, pastAside, pastHidden}
+use Rattle.steps.specs.Row.{Row, bare, noRow, hiddenRow, asideRow, noted, withCode, putAt, lowered, isLaid, isOut}
+use Rattle.steps.specs.Page.{Cell, Node, anyT}
 use Rattle.steps.specs.Probe.{widthPass}
-use Rattle.steps.specs.Kept.{Laid, finalStands, editedNode, kept, keep, keptRow, laidBits, belowRow, fixT, fixF, zerosT, zerosF}
+use Rattle.steps.specs.Kept.{finalStands, editedNode, kept, keep, keptRow, laidBits, belowRow, fixT, fixF, zerosT, zerosF}
 use Rattle.steps.specs.Layout.{Stacked, layT, layF, askT, skip, aside, place, lowerF, alignF, relaid}
 use Rattle.steps.specs.Candidates.{Candidate, candidateOf, movedBy, candidatesAt, candidates, candidatesT, candidatesF, neededT, neededF, needed}
 use Rattle.steps.specs.declared.Flow.{Flow}
@@ -28,9 +26,8 @@ use Rattle.steps.specs.declared.Flow.the-variants.{Gone, Out, In}
 use Rattle.steps.specs.declared.LayoutInput.{LayoutInput}
 use Rattle.steps.specs.declared.Frame.{Frame}
 use Rattle.steps.specs.declared.Cursor.{Cursor}
-use Rattle.laws.specs.Trees.{and-fst, and-snd}
-use Rattle.laws.specs.Clauses.{byFlow, styleT, layF-none, layF-gone, layF-out, layF-in, askT-kept, askT-laid, fixT-at, fixF-none, fixF-more}
-use Rattle.laws.specs.Along.{leaf-rows, block-rows, root-laid}
+use Rattle.steps.proofs.Clauses.{byFlow, styleT, layF-none, layF-gone, layF-out, layF-in, askT-kept, askT-new, fixT-at, fixF-none, fixF-more, leaf-rows, block-rows}
+use Rattle.laws.specs.Along.{root-laid}
 use Rattle.laws.specs.Bits.{laid-row}
 use Rattle.laws.specs.Afresh.{siteIn, siteOf, sites-T}
 
@@ -112,10 +109,6 @@ aside-outs a l e n ks = refl
 zero-outs : (ks : Forest Row) → outsT (node noRow ks) ≡ 0
 unfolding outsT isLaid isOut noRow bare
 zero-outs ks = refl
-
-zeros-node : {A : Type 0} (a : A) (ks : Forest A) → zerosT (node a ks) ≡ node noRow (zerosF ks)
-unfolding zerosT zerosF mapT
-zeros-node a ks = refl
 
 zeros-outs : {A : Type 0} (ts : Forest A) → outsF (zerosF ts) ≡ 0
 unfolding zerosF mapF outsF mapT
@@ -238,7 +231,7 @@ ask-outs (node l ks) q f h = go (kept (node l ks) q) refl
     go false e =
         let n = want-at l ks In (ap flowOf (sym (root-style l ks)) ∙ f) in
         let k = needed-kids l ks in
-        rw (askT-laid (node l ks) q e) (omega (arith, n, k, h))
+        rw (askT-new (node l ks) q e) (omega (arith, n, k, h))
 
 mutual
   outs-T : (t : Tree Node) (q : LayoutInput) (found : Float) → outsT (layT t q found .rows) ≤ needed (mapT siteOf t)

@@ -2,7 +2,7 @@
 use mathlib.Core.Path.{_≡_, refl, sym, ap, _∙_}
 use mathlib.Core.Bool.{Bool, true, false, cond}
 use mathlib.Core.List.{List, [], _∷_, _++_, map}
-use Prim.Native.Nat.{ℕ, zero, suc, _+_, _*_, _-_, _/_, _<_, _≤_}
+use Prim.Native.Nat.{ℕ, suc, _+_, _*_, _-_, _/_, _≤_}
 use native.Mathlib.Omega.{arith}
 use lib.ListN.{length, take, drop, replicate, length-append, length-map}
 use lib.Ieee.{Float}
@@ -10,19 +10,18 @@ use Rattle.geometry.specs.Geometry.{zeroF}
 use Rattle.margin.specs.declared.NodeId.{NodeId}
 use Rattle.tree.specs.Tree.{Tree, Forest, node, none, more, countT, countF, flatT}
 use Rattle.tree.proofs.Laws.{countT-node, countF-none, countF-more, length-flatT}
-use Rattle.steps.specs.Row.{Row, rowNumbers, rowWords, isLaid, isOut}
+use Rattle.steps.specs.Row.{Row, isLaid, isOut}
 use Rattle.steps.specs.Scan.{lowest}
 use Rattle.steps.specs.Noes.{badRow}
 use Rattle.steps.specs.Candidates.{Candidate, candidateWords, candidateNumbers, candidateOf, movedBy, candidatesAt, candidates, candidatesT, candidatesF}
-use Rattle.steps.specs.Results.{Reply, rowsOut, marksOut, listed, onFront, accepted, overLimit, replied}
-use Rattle.steps.specs.declared.Answer.{Answer}
+use Rattle.steps.specs.Results.{rowsOut, marksOut, listed, onFront, accepted, overLimit, replied}
 use Rattle.steps.specs.declared.Answer.the-variants.{Done, TooLarge}
 use Rattle.steps.specs.declared.Found.{Found}
 use Rattle.steps.specs.declared.Found.the-variants.{Nowhere, At}
-use Rattle.rows.proofs.Listed.{length-listed}
-use Rattle.walks.specs.Tables.{newNumbers, newWords, RowsOf}
+use Rattle.steps.proofs.Listed.{length-listed}
+use Rattle.walks.specs.Tables.{newNumbers, newWords}
 use Rattle.candidates.specs.Gathered.{RowsOfT, RoomFor, GivenF, GathersF, Fronts}
-use Rattle.candidates.proofs.RowParts.{Facts, facts}
+use Rattle.candidates.proofs.RowParts.{facts}
 use Rattle.candidates.proofs.GatherLoop.{candF-none, candF-more, candT-node}
 use Rattle.layout.specs.Public.{Replied, IsPage, Finishes}
 

@@ -1,17 +1,15 @@
 -- Accepted calls reply what the definition says.
 use mathlib.Core.Path.{_≡_, refl, sym, ap, _∙_}
 use mathlib.Core.List.{List, []}
-use Prim.Native.Nat.{ℕ, _*_, _≤_}
+use Prim.Native.Nat.{ℕ, _*_}
 use native.Mathlib.Omega.{arith}
 use lib.ListN.{length, replicate, length-replicate}
 use lib.Ieee.{Float}
 use Rattle.geometry.specs.Geometry.{zeroF}
-use Rattle.tree.specs.Tree.{Tree, countT, depthT, flatT, mapT}
+use Rattle.tree.specs.Tree.{Tree, countT, flatT, mapT}
 use Rattle.tree.specs.Table.{entryOf, from}
-use Rattle.tree.proofs.Laws.{count-mapT, flat-mapT, map-mapT}
-use Rattle.steps.specs.Row.{Row}
+use Rattle.tree.proofs.Laws.{count-mapT, flat-mapT, map-mapT, depth-mapT}
 use Rattle.steps.specs.Page.{Site, Cell, named, siteAt, nodesIn, pageOf, cellsOf, blank}
-use Rattle.steps.specs.Kept.{Laid}
 use Rattle.steps.specs.Layout.{relaid, fresh}
 use Rattle.steps.specs.Candidates.{needed}
 use Rattle.steps.specs.Noes.{layoutTested, relayoutTested}
@@ -24,7 +22,7 @@ use Rattle.walks.specs.Tables.{siteEntry, TabledT}
 use Rattle.tables.proofs.GoodPage.{good-page, good-cells, parse-relabel, page-of-cells}
 use Rattle.layout.specs.Public.{Replied, plainSite, RoomOf, IsCells, Relays}
 use Rattle.layout.proofs.BothPasses.{replied-lengths}
-use Rattle.layout.proofs.Accepted.{Passes, passes, again-passes, unmarked, same-need, room-for, depth-mapT}
+use Rattle.layout.proofs.Accepted.{Passes, passes, again-passes, unmarked, same-need, room-for}
 use Rattle.layout.proofs.OldRows.{rows-lent, marks-lent, rows-blank, marks-blank}
 
 -- ---- layout

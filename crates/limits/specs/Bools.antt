@@ -1,6 +1,6 @@
 -- Small facts on truth values. Assumes nothing.
 use mathlib.Core.Path.{_≡_, refl, sym}
-use mathlib.Core.Bool.{Bool, true, false, not, _&&_, Bool·beq}
+use mathlib.Core.Bool.{Bool, true, false, _&&_, _||_, Bool·beq}
 
 pub and-fst : (a b : Bool) → a && b ≡ true → a ≡ true
 and-fst true b e = refl
@@ -9,6 +9,18 @@ and-fst false b e = e
 pub and-snd : (a b : Bool) → a && b ≡ true → b ≡ true
 and-snd true b e = e
 and-snd false b e = cc
+
+pub and-false : (a : Bool) → (a && false) ≡ false
+and-false true = refl
+and-false false = refl
+
+pub or-left : (a b : Bool) → (a || b) ≡ false → a ≡ false
+or-left true b e = e
+or-left false b e = refl
+
+pub or-right : (a b : Bool) → (a || b) ≡ false → b ≡ false
+or-right true b e = cc
+or-right false b e = e
 
 pub beq-is : (s t : Bool) → Bool·beq s t ≡ true → s ≡ t
 beq-is true true e = refl

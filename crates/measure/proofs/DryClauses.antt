@@ -1,6 +1,6 @@
 -- The clauses of both passes without rows, as equations.
 use mathlib.Core.Path.{_≡_, refl, ap}
-use mathlib.Core.Bool.{Bool, true, false, cond}
+use mathlib.Core.Bool.{Bool, true, false}
 use Prim.Native.Nat.{_+_, _≤_}
 use native.Mathlib.Omega.{arith}
 use lib.Ieee.{Float}
@@ -11,7 +11,7 @@ use Rattle.length.specs.declared.AvailableSpace.{AvailableSpace}
 use Rattle.tree.specs.Tree.{Tree, Forest, node, none, more, rootT}
 use Rattle.steps.specs.Width.{isLeaf, flowOf, stepF, outerWidth, leafWidth}
 use Rattle.steps.specs.Edges.{frameOf}
-use Rattle.steps.specs.Stack.{startOf, itemOf, stepJ, stepped, pastAside, pastHidden, pastThrough, pastBox}
+use Rattle.steps.specs.Stack.{startOf, itemOf, stepJ, stepped, pastAside, pastHidden}
 use Rattle.steps.specs.Height.{finished, leafOutput}
 use Rattle.steps.specs.Page.{Site}
 use Rattle.steps.specs.Probe.{probeKnown, spaceIn}
@@ -24,6 +24,7 @@ use Rattle.steps.specs.declared.ProbeInput.{ProbeInput}
 use Rattle.steps.specs.declared.LayoutInput.{LayoutInput}
 use Rattle.steps.specs.declared.Frame.{Frame}
 use Rattle.steps.specs.declared.Cursor.{Cursor}
+use Rattle.compute.proofs.OneChild.{stepped-counts}
 use Rattle.measure.specs.Dry.{widthBy, widthT, widthF, widenBy, widened, sizeT, sizeF, pastBy, pastT}
 
 -- ---- the width pass
@@ -87,16 +88,13 @@ unfolding sizeF pastT
 sizeF-more t ts f c = sizeF-by t ts f c (flowOf (rootT t .style))
 
 -- ---- the cursor counts one more
-step-counts : (c : Cursor) (b : Bool) (x y : Cursor) → (x .count ≡ c .count + 1) × (x .shown .0 ≡ c .shown .0 + 1) → (y .count ≡ c .count + 1) × (y .shown .0 ≡ c .shown .0 + 1)
-    → (cond b x y .count ≡ c .count + 1) × (cond b x y .shown .0 ≡ c .shown .0 + 1)
-step-counts c true x y p q = p
-step-counts c false x y p q = q
-
 counts-by : (f : Frame) (c : Cursor) (t : Tree Site) (w : Flow) → (pastBy w f c t .count ≡ c .count + 1) × (pastBy w f c t .shown .0 ≤ c .shown .0 + 1)
-unfolding pastBy pastHidden pastAside stepped pastThrough pastBox
+unfolding pastBy pastHidden pastAside
 counts-by f c t Gone = (refl, omega arith)
 counts-by f c t Out = (refl, omega arith)
-counts-by f c t In = let h = step-counts c (sizeT t (stepJ f (rootT t .style)) zeroF .through) _ _ (refl, refl) (refl, refl) in (h .0, omega (arith, h .1))
+counts-by f c t In =
+    let h = stepped-counts f c (itemOf f (rootT t .style)) (sizeT t (stepJ f (rootT t .style)) zeroF) in
+    (h .0, omega (arith, h .1))
 
 pub counts-more : (f : Frame) (c : Cursor) (t : Tree Site) → (pastT f c t .count ≡ c .count + 1) × (pastT f c t .shown .0 ≤ c .shown .0 + 1)
 unfolding pastT

@@ -97,9 +97,5 @@ pub stack-end : (ws : List ℕ) (xs : List Float) (b : ℕ) (f : Frame) (ts : Fo
 stack-end ws xs b f ts c i = end (λ us d. sizeF us f d) (λ d t. pastT f d t) (sizeF-none f) (λ t us d. sizeF-more t us f d) ws xs b ts (startOf f) c i
 
 -- the counts of the cursor: none at the start, one more past each child
-pub start-counts : (f : Frame) (c : Cursor) → c ≡ startOf f → (c .count ≤ 0) × (c .shown .0 ≤ 0)
-unfolding startOf
-start-counts f c e = (omega (arith, ap (λ (z : Cursor). z .count) e), omega (arith, ap (λ (z : Cursor). z .shown .0) e))
-
 pub past-counts : (f : Frame) (c d : Cursor) (t : Tree Site) → d ≡ pastT f c t → (d .count ≡ c .count + 1) × (d .shown .0 ≤ c .shown .0 + 1)
 past-counts f c d t e = rw e (counts-more f c t)

@@ -1,6 +1,6 @@
 -- Where every old row is zero nothing is kept, and the final pass answers what the sites alone give.
 use mathlib.Core.Path.{_≡_, refl, sym, ap, _∙_}
-use mathlib.Core.Bool.{Bool, true, false, not, _&&_}
+use mathlib.Core.Bool.{Bool, true, false}
 use lib.Ieee.{Float}
 use Rattle.geometry.specs.Geometry.{zeroF}
 use Rattle.tree.specs.Tree.{Tree, Forest, node, none, more, mapT, mapF, rootT}
@@ -9,17 +9,19 @@ use Rattle.steps.specs.Width.{isLeaf, flowOf}
 use Rattle.steps.specs.Edges.{frameOf}
 use Rattle.steps.specs.Stack.{startOf, itemOf, stepJ, stepped}
 use Rattle.steps.specs.Height.{finished}
-use Rattle.steps.specs.Row.{Row, noRow, bare, isLaid}
-use Rattle.steps.specs.Page.{Site, Node, blank, cleared, anyT}
-use Rattle.steps.specs.Kept.{Laid, kept, finalStands, editedNode}
+use Rattle.steps.specs.Row.{noRow, bare, isLaid}
+use Rattle.steps.specs.Page.{Site, Node, blank, cleared}
+use Rattle.steps.specs.Kept.{Laid, kept}
 use Rattle.steps.specs.Layout.{Stacked, leafLaid, blockLaid, layT, layF}
 use Rattle.steps.specs.declared.Flow.{Flow}
 use Rattle.steps.specs.declared.Flow.the-variants.{Gone, Out, In}
 use Rattle.steps.specs.declared.LayoutInput.{LayoutInput}
 use Rattle.steps.specs.declared.Frame.{Frame}
 use Rattle.steps.specs.declared.Cursor.{Cursor}
+use Rattle.steps.proofs.Clauses.{layT-leaf, layT-block, layF-none, askT-new}
+use Rattle.steps.proofs.Zeros.{no-row, unlaid-kept}
 use Rattle.compute.specs.Contract.{placedIn, placedBy, placedT}
-use Rattle.compute.proofs.LayClauses.{layT-leaf, layT-block, layF-none, layF-more, askT-new}
+use Rattle.compute.proofs.OneChild.{layF-more}
 use Rattle.measure.specs.Dry.{sizeT, sizeF, pastBy, pastT}
 use Rattle.measure.proofs.DryClauses.{sizeT-leaf, sizeT-block, sizeF-none, sizeF-more}
 
@@ -69,22 +71,12 @@ mutual
   nodes-clears (more t ts) = rw (mapF-more blank, mapF-more cleared) (nodes-more t ts _ _ (nodes-clear t) (nodes-clears ts))
 
 -- ---- nothing is kept
-no-final : (q : LayoutInput) (r : Row) → r ≡ noRow → finalStands q r ≡ false
-unfolding finalStands isLaid noRow bare
-no-final q r e = rw e
-
-and-false : (a b : Bool) → (a && (b && false)) ≡ false
-and-false true true = refl
-and-false true false = refl
-and-false false b = refl
-
 root-bare : (t : Tree Node) → BareT t → rootT t .old ≡ noRow
 unfolding BareT
 root-bare (node l ks) h = ap (λ (z : Node). z .old) (rootT-node l ks) ∙ h .0
 
 pub none-kept : (t : Tree Node) (q : LayoutInput) → BareT t → kept t q ≡ false
-unfolding kept
-none-kept t q h = ap (λ (b : Bool). not (anyT editedNode t) && (not (rootT t .anew) && b)) (no-final q (rootT t .old) (root-bare t h)) ∙ and-false (not (anyT editedNode t)) (not (rootT t .anew))
+none-kept t q h = unlaid-kept t q (ap isLaid (root-bare t h) ∙ no-row)
 
 -- ---- the final pass
 lay-node : (l : Node) (ks : Forest Node) (q : LayoutInput) (w : Float) (v : Bool) → isLeaf (l .site .style .kind) ≡ v → ((f : Frame) (c : Cursor) → sizeF (mapF siteIn ks) f c ≡ layF ks f c .end)

@@ -1,6 +1,6 @@
 -- Where every old row is zero no probe stands answered, and the width pass finds what the sites alone give.
 use mathlib.Core.Path.{_≡_, refl, sym, ap, _∙_}
-use mathlib.Core.Bool.{Bool, true, false, not, _&&_}
+use mathlib.Core.Bool.{Bool, true, false}
 use lib.Ieee.{Float}
 use Rattle.geometry.specs.Geometry.{zeroF}
 use Rattle.util.specs.Math.{larger}
@@ -11,26 +11,18 @@ use Rattle.tree.specs.Tree.{Tree, Forest, node, none, more, mapT, mapF, rootT}
 use Rattle.tree.proofs.Laws.{mapT-node, mapF-none, mapF-more, rootT-node, rootT-map}
 use Rattle.steps.specs.Sizing.{stepA, knownOf}
 use Rattle.steps.specs.Width.{isLeaf, stepF, outerWidth, leafWidth}
-use Rattle.steps.specs.Row.{Row, noRow, bare}
-use Rattle.steps.specs.Page.{Site, Cell, Node, blank, cleared, probedAnew, anyT, edits}
-use Rattle.steps.specs.Probe.{Probed, Widest, Passed, probeKnown, spaceIn, widthFrom, probeStands, answered, asked, blockProbe, stay, widen, probeT, probeF, passBy, widthPass}
+use Rattle.steps.specs.Row.{noRow}
+use Rattle.steps.specs.Page.{Site, Cell, Node, blank, cleared, probedAnew}
+use Rattle.steps.specs.Probe.{Probed, Widest, Passed, probeKnown, spaceIn, widthFrom, answered, asked, blockProbe, stay, widen, probeT, probeF, passBy, widthPass}
 use Rattle.steps.specs.declared.Want.{Want}
 use Rattle.steps.specs.declared.Want.the-variants.{Nothing, Outer}
 use Rattle.steps.specs.declared.Want.the-variants as want
 use Rattle.steps.specs.declared.ProbeInput.{ProbeInput}
 use Rattle.steps.specs.declared.LayoutInput.{LayoutInput}
+use Rattle.steps.proofs.Zeros.{unprobed, not-answered}
 use Rattle.measure.specs.Dry.{widthBy, widthT, widthF, widenBy, widened, foundBy, foundT}
 use Rattle.measure.proofs.DryClauses.{widthT-leaf, widthT-block, widthF-none, widthF-more}
 use Rattle.measure.proofs.NothingKept.{NodesT, NodesF, nodes-node, nodes-none, nodes-more, nodes-clear, nodes-clears}
-
--- no probe stands
-no-probe : (q : ProbeInput) (r : Row) → r ≡ noRow → probeStands q r ≡ false
-unfolding probeStands noRow bare
-no-probe q r e = rw e
-
-and-false : (b : Bool) → (b && false) ≡ false
-and-false true = refl
-and-false false = refl
 
 blank-old : (t : Tree Site) → rootT (mapT blank t) .old ≡ noRow
 unfolding blank
@@ -40,9 +32,9 @@ pub blank-site : (t : Tree Site) → rootT (mapT blank t) .site ≡ rootT t
 unfolding blank
 blank-site t = ap (λ (z : Cell). z .site) (rootT-map blank t)
 
+-- no probe stands
 pub none-answered : (t : Tree Site) (q : ProbeInput) → answered (mapT blank t) q ≡ false
-unfolding answered
-none-answered t q = ap (λ (b : Bool). not (anyT edits (mapT blank t)) && b) (no-probe q _ (blank-old t)) ∙ and-false (not (anyT edits (mapT blank t)))
+none-answered t q = not-answered (mapT blank t) q (unprobed q _ (blank-old t))
 
 -- a probe's answer and the nodes that it leaves
 record ProbeOf (t : Tree Site) (q : ProbeInput) (p : Probed) : Type 0 where

@@ -10,17 +10,11 @@ use Rattle.style.specs.Style.{wordAt, styleAt}
 use Rattle.tree.specs.Tree.{Tree, Forest, node, none, more, countT, countF, depthT, flatT, flatF}
 use Rattle.tree.specs.Table.{Entry, entryOf, from}
 use Rattle.tree.proofs.Laws.{countT-node, countF-none, countF-more, flatT-node, flatF-more, depthT-node}
-use Rattle.tree.proofs.Lists.{heads, tails, from-suc, from-add, length-from}
+use Rattle.tree.proofs.Lists.{heads, tails, from-suc, from-add, length-from, cons-first, cons-rest}
 use Rattle.tree.proofs.Parse.{entries-T}
 use Rattle.steps.specs.Page.{Site, siteAt}
 use Rattle.walks.proofs.Parts.{sites-part}
 use Rattle.measure.specs.Contract.{SitesT, SitesF, IsTree, IsForest}
-
-cons-first : {B : Type 0} (x y : B) (l m : List B) → x ∷ l ≡ y ∷ m → x ≡ y
-cons-first x y l m e = cc
-
-cons-rest : {B : Type 0} (x y : B) (l m : List B) → x ∷ l ≡ y ∷ m → l ≡ m
-cons-rest x y l m e = cc
 
 -- a run of sites that begins with a tree
 record Parted (f : ℕ → Entry Site) (a : ℕ) (t : Tree Site) (us : Forest Site) : Type 0 where

@@ -3,20 +3,21 @@ use mathlib.Core.Path.{_≡_, refl, sym, ap, _∙_}
 use mathlib.Core.List.{List, [], _∷_}
 use Prim.Native.Nat.{ℕ, _*_}
 use lib.Ieee.{Float}
-use Rattle.tree.specs.Tree.{Tree, Forest, node, none, more, countT, depthT, depthF, flatT, mapT, mapF}
+use Rattle.tree.specs.Tree.{Tree, countT, depthT, flatT, mapT}
 use Rattle.tree.specs.Table.{Entry, from}
-use Rattle.tree.proofs.Laws.{depthT-node, depthF-none, depthF-more, mapT-node, mapF-none, mapF-more, flat-mapT, count-mapT, map-mapT}
+use Rattle.tree.proofs.Laws.{flat-mapT, count-mapT, map-mapT, depth-mapT}
 use Rattle.steps.specs.Row.{rowNumbers, rowWords}
 use Rattle.steps.specs.Page.{Site, Cell, Node, siteAt, staying}
 use Rattle.steps.specs.Probe.{widthPass}
 use Rattle.steps.specs.Layout.{layT, relaid}
 use Rattle.steps.specs.declared.LayoutInput.{LayoutInput}
+use Rattle.steps.proofs.Cells.{cellIn, pass-cells}
 use Rattle.walks.specs.Tables.{siteEntry, oldNumbers, oldWords, TabledT}
 use Rattle.probing.specs.Passed.{passedRow, passedNumbers, passedWords, markedCell}
 use Rattle.probing.specs.Contract.{AreT}
 use Rattle.probing.proofs.PassedRows.{flat-sameT}
 use Rattle.probing.proofs.Marked.{marked, marked-T}
-use Rattle.probing.proofs.PassCodes.{siteOf, cellSite, good-pass, codes-pass}
+use Rattle.probing.proofs.PassCodes.{codes-pass}
 
 -- the page that the final pass finds
 abbrev pub leftBy : Tree Cell → LayoutInput → Tree Cell
@@ -37,30 +38,27 @@ marked-old l = refl
 abbrev entry : ℕ → Site → List (Entry Site)
 entry n s = record { size = n; label = s } ∷ []
 
-marked-sites : (u : Tree Node) → mapT (λ (l : Node). cellSite (markedCell l)) u ≡ mapT siteOf u
+abbrev siteIn : Cell → Site
+siteIn l = l .site
+
+marked-sites : (u : Tree Node) → mapT (λ (l : Node). siteIn (markedCell l)) u ≡ mapT (λ (l : Node). siteIn (cellIn l)) u
 unfolding markedCell
 marked-sites u = refl
 
-left-sites : (t : Tree Cell) (q : LayoutInput) → mapT cellSite (leftBy t q) ≡ mapT cellSite t
-left-sites t q = map-mapT cellSite markedCell (widthPass t q .nodes) ∙ marked-sites (widthPass t q .nodes) ∙ good-pass t q .sites
+left-sites : (t : Tree Cell) (q : LayoutInput) → mapT siteIn (leftBy t q) ≡ mapT siteIn t
+left-sites t q =
+    let u = widthPass t q .nodes in
+    map-mapT siteIn markedCell u ∙ marked-sites u ∙ sym (map-mapT siteIn cellIn u) ∙ ap (mapT siteIn) (pass-cells t q)
 
 -- tables and depth see the sites alone
-sites-T : (t : Tree Cell) → flatT siteEntry t ≡ flatT entry (mapT cellSite t)
-sites-T t = sym (flat-mapT entry cellSite t)
-
-mutual
-  depth-mapT : {A B : Type 0} (f : A → B) (t : Tree A) → depthT (mapT f t) ≡ depthT t
-  depth-mapT f (node a ks) = rw (mapT-node f a ks, depthT-node, depthT-node, depth-mapF f ks)
-
-  depth-mapF : {A B : Type 0} (f : A → B) (ts : Forest A) → depthF (mapF f ts) ≡ depthF ts
-  depth-mapF f none = rw (mapF-none f, depthF-none, depthF-none)
-  depth-mapF f (more t ts) = rw (mapF-more f t ts, depthF-more, depthF-more, depth-mapT f t, depth-mapF f ts)
+sites-T : (t : Tree Cell) → flatT siteEntry t ≡ flatT entry (mapT siteIn t)
+sites-T t = sym (flat-mapT entry siteIn t)
 
 pub left-count : (t : Tree Cell) (q : LayoutInput) → countT (leftBy t q) ≡ countT t
-left-count t q = sym (count-mapT cellSite (leftBy t q)) ∙ ap countT (left-sites t q) ∙ count-mapT cellSite t
+left-count t q = sym (count-mapT siteIn (leftBy t q)) ∙ ap countT (left-sites t q) ∙ count-mapT siteIn t
 
 pub left-depth : (t : Tree Cell) (q : LayoutInput) → depthT (leftBy t q) ≡ depthT t
-left-depth t q = sym (depth-mapT cellSite (leftBy t q)) ∙ ap depthT (left-sites t q) ∙ depth-mapT cellSite t
+left-depth t q = sym (depth-mapT siteIn (leftBy t q)) ∙ ap depthT (left-sites t q) ∙ depth-mapT siteIn t
 
 -- memory after the pass
 pub left-tabled : (ws : List ℕ) (xs rs : List Float) (ms es : List ℕ) (rs′ : List Float) (ms′ : List ℕ) (t : Tree Cell) (q : LayoutInput) → TabledT ws xs rs ms es 0 t → AreT rs′ ms′ (widthPass t q .nodes) → TabledT ws xs rs′ ms′ es 0 (leftBy t q)

@@ -1,4 +1,3 @@
-pub mod Edited
 pub mod Clearing
 pub mod PassedRows
 pub mod Clauses
@@ -6,7 +5,6 @@ pub mod OneTree
 pub mod WidestLoop
 pub mod OnePage
 pub mod ProbeBits
-pub mod LayClauses
 pub mod Marked
 pub mod PassCodes
 pub mod Between

@@ -7,25 +7,25 @@ use Prim.Native.Nat.{_<_}
 use lib.Ieee.{Float}
 use Rattle.geometry.specs.Geometry.{zeroF}
 use Rattle.tree.specs.Tree.{Tree, Forest, node, none, more, mapT, mapF, rootT}
-use Rattle.tree.proofs.Laws.{mapT-node, mapF-none, mapF-more, rootT-node, rootT-map, map-mapT, map-mapF}
+use Rattle.tree.proofs.Laws.{mapT-node, mapF-none, mapF-more, rootT-node, rootT-map}
 use Rattle.steps.specs.Width.{isLeaf, flowOf}
 use Rattle.steps.specs.Edges.{frameOf}
-use Rattle.steps.specs.Stack.{startOf, stepJ}
-use Rattle.steps.specs.Row.{Row, Probe, noted, withCode, probeOf, isLaid, outputIn, noRow, hiddenRow, asideRow}
-use Rattle.steps.specs.Page.{Node, anyT, anyF, staying}
-use Rattle.steps.specs.Kept.{finalStands, editedNode, kept, keep, keptRow, laidBits, belowRow, zerosT, zerosF, fixT, fixF}
-use Rattle.steps.specs.Layout.{Stacked, leafLaid, blockLaid, layT, layF, askT}
+use Rattle.steps.specs.Stack.{startOf, stepJ, pastAside, pastHidden}
+use Rattle.steps.specs.Row.{Row, Probe, noted, withCode, probeOf, isLaid, outputIn, hiddenRow, asideRow}
+use Rattle.steps.specs.Page.{Node, anyT, staying}
+use Rattle.steps.specs.Kept.{finalStands, editedNode, kept, keep, keptRow, laidBits, belowRow, fixT, fixF}
+use Rattle.steps.specs.Layout.{Stacked, leafLaid, blockLaid, layT, layF, askT, skip, aside, place}
 use Rattle.steps.specs.declared.Flow.{Flow}
 use Rattle.steps.specs.declared.Flow.the-variants.{Gone, Out, In}
 use Rattle.steps.specs.declared.LayoutInput.{LayoutInput}
 use Rattle.steps.specs.declared.Frame.{Frame}
 use Rattle.steps.specs.declared.Cursor.{Cursor}
+use Rattle.steps.proofs.Clauses.{styleT, layT-leaf, layT-block, layF-gone, layF-out, layF-in, askT-kept, askT-new, fixF-more, fixT-gone, fixT-out, fixT-in, any-mapT}
+use Rattle.steps.proofs.Zeros.{zeros-T, zeros-F}
 use Rattle.rows.specs.Store.{unlaid}
-use Rattle.walks.proofs.FixClauses.{fixF-more, fixT-gone, fixT-out, fixT-in}
 use Rattle.probing.specs.Passed.{passedRow, markedCell}
 use Rattle.probing.proofs.ProbeBits.{code-back, flag-0, flag-1, flag-3, flag-gone, bits-below}
 use Rattle.probing.proofs.PassedRows.{same-note}
-use Rattle.probing.proofs.LayClauses.{placedIn, placedBy, placedT, layT-leaf, layT-block, layF-more, askT-kept, askT-new}
 
 -- what the final pass takes a node for
 abbrev pub marked : Node → Node
@@ -102,35 +102,17 @@ site-marked : (l : Node) → marked l .site ≡ l .site
 unfolding staying markedCell
 site-marked l = refl
 
--- rows of zeros, and edits
-zeros-F : (ts : Forest Node) → zerosF (mapF marked ts) ≡ zerosF ts
-unfolding zerosF
-zeros-F ts = map-mapF (λ _. noRow) marked ts
-
-zeros-T : (t : Tree Node) → zerosT (mapT marked t) ≡ zerosT t
-unfolding zerosT
-zeros-T t = map-mapT (λ _. noRow) marked t
-
-edit-marked : (l : Node) → editedNode (marked l) ≡ editedNode l
+-- edits
+any-marked : (t : Tree Node) → anyT editedNode (mapT marked t) ≡ anyT editedNode t
 unfolding editedNode staying markedCell
-edit-marked l = refl
-
-mutual
-  unfolding anyT mapT
-
-  any-T : (t : Tree Node) → anyT editedNode (mapT marked t) ≡ anyT editedNode t
-  any-T (node l ks) = rw (edit-marked l, any-F ks)
-
-  any-F : (ts : Forest Node) → anyF editedNode (mapF marked ts) ≡ anyF editedNode ts
-  any-F none = refl
-  any-F (more t ts) = rw (any-T t, any-F ts)
+any-marked t = any-mapT editedNode marked t
 
 -- below a kept node
 fix-node : (l : Node) (ks : Forest Node) (w : Flow) → flowOf (l .site .style) ≡ w → l .probe .code < 16 → fixF (mapF marked ks) ≡ fixF ks → fixT (mapT marked (node l ks)) ≡ fixT (node l ks)
 fix-node l ks Gone e h i =
-    ap fixT (mapT-node marked l ks) ∙ fixT-gone (marked l) (mapF marked ks) (ap (λ s. flowOf (s .style)) (site-marked l) ∙ e) ∙ rw (hidden-marked l, zeros-F ks) (sym (fixT-gone l ks e))
+    ap fixT (mapT-node marked l ks) ∙ fixT-gone (marked l) (mapF marked ks) (ap (λ s. flowOf (s .style)) (site-marked l) ∙ e) ∙ rw (hidden-marked l, zeros-F marked ks) (sym (fixT-gone l ks e))
 fix-node l ks Out e h i =
-    ap fixT (mapT-node marked l ks) ∙ fixT-out (marked l) (mapF marked ks) (ap (λ s. flowOf (s .style)) (site-marked l) ∙ e) ∙ rw (aside-marked l, zeros-F ks) (sym (fixT-out l ks e))
+    ap fixT (mapT-node marked l ks) ∙ fixT-out (marked l) (mapF marked ks) (ap (λ s. flowOf (s .style)) (site-marked l) ∙ e) ∙ rw (aside-marked l, zeros-F marked ks) (sym (fixT-out l ks e))
 fix-node l ks In e h i =
     ap fixT (mapT-node marked l ks) ∙ fixT-in (marked l) (mapF marked ks) (ap (λ s. flowOf (s .style)) (site-marked l) ∙ e) ∙ rw (below-marked l h, i) (sym (fixT-in l ks e))
 
@@ -149,7 +131,7 @@ kept-node : (l : Node) (ks : Forest Node) (q : LayoutInput) → kept (mapT marke
 unfolding kept
 kept-node l ks q =
     let r : rootT (mapT marked (node l ks)) ≡ marked l = rootT-map marked (node l ks) ∙ ap marked (rootT-node l ks) in
-    rw (any-T (node l ks), r, rootT-node l ks) (ap (λ (b : Bool). not (anyT editedNode (node l ks)) && b) (stands-marked q l))
+    rw (any-marked (node l ks), r, rootT-node l ks) (ap (λ (b : Bool). not (anyT editedNode (node l ks)) && b) (stands-marked q l))
 
 not-anew : (a b c : Bool) → (not a && (not b && c)) ≡ true → b ≡ false
 not-anew a false c e = refl
@@ -176,7 +158,7 @@ ask-of (node l ks) h q i = ask-node l ks q (kept (node l ks) q) refl (fix-F ks (
 -- one node, and one child of the stack
 leaf-marked : (l : Node) (ks : Forest Node) (q : LayoutInput) → l .probe .code < 16 → leafLaid (marked l) q (mapF marked ks) ≡ leafLaid l q ks
 unfolding leafLaid staying markedCell
-leaf-marked l ks q h = rw (probe-back l h, zeros-F ks)
+leaf-marked l ks q h = rw (probe-back l h, zeros-F marked ks)
 
 block-marked : (l : Node) (q : LayoutInput) (f : Frame) (s : Stacked) → l .probe .code < 16 → blockLaid (marked l) q f s ≡ blockLaid l q f s
 unfolding blockLaid staying markedCell
@@ -195,18 +177,19 @@ lay-node l ks q w false e h i =
 root-style : (t : Tree Node) → rootT (mapT marked t) .site .style ≡ rootT t .site .style
 root-style t = ap (λ l. l .site .style) (rootT-map marked t) ∙ ap (λ s. s .style) (site-marked (rootT t))
 
-placed-by : (w : Flow) (f : Frame) (c : Cursor) (t : Tree Node) → ((q : LayoutInput) → askT (mapT marked t) q ≡ askT t q) → placedBy w f c (mapT marked t) ≡ placedBy w f c t
-unfolding placedBy placedIn
-placed-by Gone f c t h = rw (zeros-T t)
-placed-by Out f c t h = rw (zeros-T t)
-placed-by In f c t h = rw (root-style t, h (stepJ f (rootT t .site .style)))
+more-at : (t : Tree Node) (ts : Forest Node) (f : Frame) (c : Cursor) (w : Flow) → flowOf (styleT t) ≡ w → ((q : LayoutInput) → askT (mapT marked t) q ≡ askT t q)
+    → ((d : Cursor) → layF (mapF marked ts) f d ≡ layF ts f d) → layF (more (mapT marked t) (mapF marked ts)) f c ≡ layF (more t ts) f c
+unfolding skip aside place
+more-at t ts f c Gone e h k =
+    layF-gone (mapT marked t) (mapF marked ts) f c (ap flowOf (root-style t) ∙ e) ∙ rw (zeros-T marked t, k (pastHidden c)) (sym (layF-gone t ts f c e))
+more-at t ts f c Out e h k =
+    layF-out (mapT marked t) (mapF marked ts) f c (ap flowOf (root-style t) ∙ e) ∙ rw (zeros-T marked t, k (pastAside c)) (sym (layF-out t ts f c e))
+more-at t ts f c In e h k =
+    layF-in (mapT marked t) (mapF marked ts) f c (ap flowOf (root-style t) ∙ e) ∙ rw (root-style t, h (stepJ f (styleT t)), k _) (sym (layF-in t ts f c e))
 
-placed-of : (f : Frame) (c : Cursor) (t : Tree Node) → ((q : LayoutInput) → askT (mapT marked t) q ≡ askT t q) → placedT f c (mapT marked t) ≡ placedT f c t
-unfolding placedT
-placed-of f c t h = rw (root-style t) (placed-by (flowOf (rootT t .site .style)) f c t h)
-
-more-of : (t : Tree Node) (ts : Forest Node) (f : Frame) (c : Cursor) → placedT f c (mapT marked t) ≡ placedT f c t → ((d : Cursor) → layF (mapF marked ts) f d ≡ layF ts f d) → layF (mapF marked (more t ts)) f c ≡ layF (more t ts) f c
-more-of t ts f c h k = rw (mapF-more marked t ts, layF-more, layF-more, h, k (placedT f c t .end))
+more-of : (t : Tree Node) (ts : Forest Node) (f : Frame) (c : Cursor) → ((q : LayoutInput) → askT (mapT marked t) q ≡ askT t q) → ((d : Cursor) → layF (mapF marked ts) f d ≡ layF ts f d)
+    → layF (mapF marked (more t ts)) f c ≡ layF (more t ts) f c
+more-of t ts f c h k = rw (mapF-more marked t ts) (more-at t ts f c (flowOf (styleT t)) refl h k)
 
 mutual
   unfolding CodesT
@@ -216,4 +199,4 @@ mutual
 
   pub marked-F : (ts : Forest Node) → CodesF ts → (f : Frame) (c : Cursor) → layF (mapF marked ts) f c ≡ layF ts f c
   marked-F none h f c = rw (mapF-none marked)
-  marked-F (more t ts) h f c = more-of t ts f c (placed-of f c t (λ q. ask-of t (h .0) q (marked-T t (h .0) q zeroF))) (λ d. marked-F ts (h .1) f d)
+  marked-F (more t ts) h f c = more-of t ts f c (λ q. ask-of t (h .0) q (marked-T t (h .0) q zeroF)) (λ d. marked-F ts (h .1) f d)

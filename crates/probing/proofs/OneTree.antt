@@ -2,7 +2,7 @@
 use mathlib.Core.Path.{_≡_, refl, sym, ap, _∙_}
 use mathlib.Core.Bool.{Bool, true, false}
 use mathlib.Core.List.{List, _++_}
-use Prim.Native.Nat.{ℕ, suc, _+_, _*_, _-_, _/_, _≤_}
+use Prim.Native.Nat.{ℕ, _+_, _-_, _/_}
 use native.Mathlib.Omega.{arith}
 use lib.ListN.{length, getD, take, drop}
 use lib.Ieee.{Float, nan}
@@ -14,8 +14,8 @@ use Rattle.util.specs.declared.OptionSize.{OptionSize}
 use Rattle.length.specs.declared.AvailableSpace.{AvailableSpace}
 use Rattle.style.specs.Style.{styleAt}
 use Rattle.style.specs.declared.Style.{Style}
-use Rattle.tree.specs.Tree.{Tree, Forest, node, countT, countF, depthT, flatT, flatF, mapT, mapF, rootT}
-use Rattle.tree.proofs.Laws.{countT-node, flatT-node, rootT-node, depthT-node}
+use Rattle.tree.specs.Tree.{Tree, Forest, node, countT, flatT, flatF, mapT, mapF, rootT}
+use Rattle.tree.proofs.Laws.{flatT-node, rootT-node}
 use Rattle.tree.proofs.Lists.{tail-put}
 use Rattle.steps.specs.Width.{isLeaf, stepF, outerWidth, leafWidth}
 use Rattle.steps.specs.Row.{Row, rowNumbers, rowWords, probeNote}
@@ -25,53 +25,23 @@ use Rattle.steps.specs.declared.ProbeInput.{ProbeInput}
 use Rattle.steps.specs.declared.Want.{Want}
 use Rattle.steps.specs.declared.Want.the-variants.{Nothing, Outer}
 use Rattle.steps.specs.declared.Want.the-variants as want
+use Rattle.steps.proofs.Clauses.{probeT-leaf, askP-stands, askP-anew, widestIn, stay-nodes}
 use Rattle.rows.specs.Store.{Becomes, AllBecome, Room, Whole, probedRow, clearedRow}
 use Rattle.walks.specs.Tables.{oldNumbers, TabledT}
 use Rattle.walks.proofs.Parts.{tree-facts}
+use Rattle.walks.proofs.Edited.{edited-run}
 use Rattle.probing.specs.Passed.{passedRow, passedNumbers, passedWords}
-use Rattle.probing.specs.Contract.{IsTree, IsForest, Rows, RestCleared, Stands, AreT, kidsT, Widened, widenedBy, widenedT, ProbedT, AnewT, WidenedT, WidestF}
-use Rattle.probing.proofs.Edited.{edited-run}
+use Rattle.probing.specs.Contract.{Rows, RestCleared, Stands, AreT, kidsT, Widened, widenedBy, widenedT, ProbedT, AnewT, WidenedT, WidestF}
 use Rattle.probing.proofs.PassedRows.{passed-probed, staying-rows, staying-marks, all-cleared, rest-cleared}
-use Rattle.probing.proofs.Clauses.{probeT-leaf, probeT-known, probeT-below, asked-answer, asked-kids, anew-node, askP-stands, askP-anew, widenedT-is, below}
+use Rattle.probing.proofs.Clauses.{probeT-known, probeT-below, asked-answer, asked-kids, anew-node, widenedT-is}
 
--- the lengths and the children's tables of a tree that some `requires` gives
-pub record Facts (ws : List ℕ) (xs rs : List Float) (ms es : List ℕ) (b depth : ℕ) : Type 0 where
-  pub words-some : 4 ≤ length ws
-  pub rows-some : 16 ≤ length rs
-  pub marks-some : 2 ≤ length ms
-  pub rows-long : length rs ≡ 4 * length ws
-  pub marks-long : 2 * length ms ≡ length ws
-  pub room : Room rs ms
-  pub whole : Whole rs ms
-  pub all : Rows rs ms
-  pub deep : 1 ≤ depth
-  pub fit : 4 * b + length ws ≤ 4096
-  pub kids : IsForest (take (length ws - 4) (drop 4 ws)) xs (take (length rs - 16) (drop 16 rs)) (take (length ms - 2) (drop 2 ms)) es (b + 1) (depth - 1)
-
-facts-of : (ws : List ℕ) (xs rs : List Float) (ms es : List ℕ) (b depth : ℕ) (t : Tree Cell) → TabledT ws xs rs ms es b t → depthT t ≤ depth → b + countT t ≤ 1024 → Facts ws xs rs ms es b depth
-facts-of ws xs rs ms es b depth (node l ks) h dp fit =
-    let k = tree-facts ws xs rs ms es b l ks h in
-    let one : countT (node l ks) ≡ suc (countF ks) = countT-node l ks in
-    let wl = h .words-long in
-    let rl = k .rows-long in
-    let ml = k .marks-long in
-    let z = simp depthT-node at dp in
-    record {
-      words-some = k .words-some;
-      rows-some = k .rows-some;
-      marks-some = k .marks-some;
-      rows-long = k .rows-long;
-      marks-long = k .marks-long;
-      room = record { rows-some = k .rows-some; marks-some = k .marks-some };
-      whole = record { n = suc (countF ks); rows-long = omega arith; marks-long = omega arith };
-      all = record { n = countF ks; rows-long = omega arith; marks-long = omega arith };
-      deep = omega arith;
-      fit = omega arith;
-      kids = record { forest = ks; tabled = k .kids; deep = omega arith; fit = omega arith };
-    }
-
-pub facts : (ws : List ℕ) (xs rs : List Float) (ms es : List ℕ) (b depth : ℕ) → IsTree ws xs rs ms es b depth → Facts ws xs rs ms es b depth
-facts ws xs rs ms es b depth h = facts-of ws xs rs ms es b depth (h .tree) (h .tabled) (h .deep) (h .fit)
+-- a row and the rest
+pub all-rows : {rs : List Float} {ms : List ℕ} → Room rs ms → Whole rs ms → Rows rs ms
+all-rows r w =
+    let a = r .rows-some in
+    let b = w .rows-long in
+    let c = w .marks-long in
+    record { n = w .n - 1; rows-long = omega arith; marks-long = omega arith }
 
 -- the code's test is the definition's
 stands-is : (ws : List ℕ) (xs rs : List Float) (ms es : List ℕ) (b : ℕ) (q : ProbeInput) (v : Bool) (l : Cell) (ks : Forest Cell) → TabledT ws xs rs ms es b (node l ks) → Stands rs ms es b (length ws / 4) q v
@@ -86,10 +56,6 @@ stands-is ws xs rs ms es b q v l ks h st =
 stay-answer : (l : Cell) (ks : Forest Cell) → stay (node l ks) .answer ≡ l .old .answer
 unfolding stay rootT
 stay-answer l ks = refl
-
-stay-nodes : (t : Tree Cell) → stay t .nodes ≡ mapT staying t
-unfolding stay
-stay-nodes t = refl
 
 number-13 : (r : Row) (z : List Float) → getD (rowNumbers r ++ z) 13 nan ≡ r .answer
 number-13 r z = refl
@@ -167,14 +133,14 @@ module _ (ws : List ℕ) (xs rs : List Float) (ms es : List ℕ) (b : ℕ) (q : 
       let st = root-style ws xs rs ms es b s l ks h hs in
       let lf2 : isLeaf (l .site .style .kind) ≡ false = ap (λ (z : Style). isLeaf (z .kind)) (sym st) ∙ lf in
       let kn : probeKnown (l .site .style) q .width ≡ None = ap (λ (z : Style). probeKnown z q .width) (sym st) ∙ ap (λ (z : OptionSize). z .width) (sym hk) ∙ kw in
-      let ea : probeF ks a zeroF ≡ below l q ks = ap (λ (z : AvailableSpace). probeF ks z zeroF) (ha ∙ ap (λ (z : Style). spaceIn z None (q .available)) st) in
+      let ea : probeF ks a zeroF ≡ widestIn l ks q = ap (λ (z : AvailableSpace). probeF ks z zeroF) (ha ∙ ap (λ (z : Style). spaceIn z None (q .available)) st) in
       let g = hw ks (k .kids) in
       let t16 : take 16 rs ≡ rowNumbers (l .old) = ap (take 16) (k .rows-head) in
       let t2 : take 2 ms ≡ rowWords (l .old) = ap (take 2) (k .marks-head) in
       let e1 : putMid 16 (length rs - 16) rs nr ≡ rowNumbers (l .old) ++ nr = tail-put 16 rs nr ∙ ap (λ (z : List Float). z ++ nr) t16 in
       let e2 : putMid 2 (length ms - 2) ms nm ≡ rowWords (l .old) ++ nm = tail-put 2 ms nm ∙ ap (λ (z : List ℕ). z ++ nm) t2 in
-      let em : r ≡ widthFrom (l .site .style) None (below l q ks .most) = hr ∙ ap (λ (z : Style). widthFrom z None most) st ∙ ap (widthFrom (l .site .style) None) (g .0 ∙ ap (λ (z : Widest). z .most) ea) in
-      made-anew _ _ q l ks r (widthFrom (l .site .style) None (below l q ks .most)) (below l q ks .nodes) em (record {
+      let em : r ≡ widthFrom (l .site .style) None (widestIn l ks q .most) = hr ∙ ap (λ (z : Style). widthFrom z None most) st ∙ ap (widthFrom (l .site .style) None) (g .0 ∙ ap (λ (z : Widest). z .most) ea) in
+      made-anew _ _ q l ks r (widthFrom (l .site .style) None (widestIn l ks q .most)) (widestIn l ks q .nodes) em (record {
         made = probeT-below l ks q lf2 kn;
         rows-are = e1 ∙ ap (λ (z : List Float). rowNumbers (l .old) ++ z) (g .1 .0 ∙ ap (λ (z : Widest). flatF passedNumbers (z .nodes)) ea);
         marks-are = e2 ∙ ap (λ (z : List ℕ). rowWords (l .old) ++ z) (g .1 .1 ∙ ap (λ (z : Widest). flatF passedWords (z .nodes)) ea);

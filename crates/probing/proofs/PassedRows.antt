@@ -5,16 +5,17 @@
 use mathlib.Core.Path.{_≡_, refl, sym, ap, _∙_}
 use mathlib.Core.List.{List, [], _∷_, _++_, map}
 use Prim.Native.Nat.{ℕ, suc, _/_, _%_}
-use native.Mathlib.Omega.{arith}
 use lib.Ieee.{Float}
 use Rattle.tree.specs.Tree.{Tree, Forest, node, none, more, countF, flatT, flatF, mapT, mapF}
 use Rattle.tree.proofs.Laws.{flat-mapT, flat-mapF}
+use Rattle.tree.proofs.Lists.{map-append}
 use Rattle.steps.specs.Row.{Row, rowNumbers, rowWords, noted, withCode, noProbe, probeNote, probeOf}
 use Rattle.steps.specs.Results.{listed}
 use Rattle.steps.specs.Page.{Cell, Node, cleared, staying, probedAnew}
 use Rattle.steps.specs.declared.ProbeInput.{ProbeInput}
+use Rattle.steps.proofs.Codes.{same-code}
+use Rattle.steps.proofs.Listed.{listed-append}
 use Rattle.rows.specs.Store.{probedRow, clearedRow, AllBecome}
-use Rattle.rows.proofs.Listed.{listed-append}
 use Rattle.walks.specs.Tables.{oldNumbers, oldWords}
 use Rattle.probing.specs.Passed.{passedRow, passedNumbers, passedWords}
 use Rattle.probing.specs.Contract.{AreT, RestCleared}
@@ -22,10 +23,6 @@ use Rattle.probing.specs.Contract.{AreT, RestCleared}
 pub passed-cleared : (c : Cell) → passedRow (cleared c) ≡ clearedRow (c .old)
 unfolding passedRow cleared clearedRow noProbe
 passed-cleared c = refl
-
-same-code : (b : ℕ) → withCode b (b / 16 % 16) ≡ b
-unfolding withCode
-same-code b = omega arith
 
 pub same-note : (r : Row) → noted r (probeOf r) (withCode (r .bits) (r .bits / 16 % 16)) ≡ r
 unfolding noted probeOf
@@ -75,10 +72,6 @@ module _ {B : Type 0} (f : Row → List B) (k : Row → Row) where
     listed-F : (ts : Forest Cell) → flatF (λ _ (c : Cell). f (k (c .old))) ts ≡ listed f (flatF (rowIn k) ts)
     listed-F none = refl
     listed-F (more t ts) = rw (listed-T t, listed-F ts) (sym (listed-append f (flatT (rowIn k) t) (flatF (rowIn k) ts)))
-
-map-append : (k : Row → Row) (l m : List Row) → map k (l ++ m) ≡ map k l ++ map k m
-map-append k [] m = refl
-map-append k (r ∷ l) m = ap (λ (z : List Row). k r ∷ z) (map-append k l m)
 
 module _ (k : Row → Row) where
   mutual

@@ -5,12 +5,8 @@ use Prim.Native.Nat.{ℕ, _/_, _%_, _<_}
 use native.Mathlib.Omega.{arith}
 use lib.Dec.{eqb}
 use Rattle.style.specs.Codes.{flagAt}
-use Rattle.util.specs.Maybe.{isSome}
-use Rattle.length.specs.declared.AvailableSpace.{AvailableSpace}
-use Rattle.length.specs.declared.AvailableSpace.the-variants.{Definite, MinContent, MaxContent}
-use Rattle.steps.specs.Row.{bit, availableKind, probeCode, withCode}
+use Rattle.steps.specs.Row.{withCode}
 use Rattle.steps.specs.Kept.{laidBits}
-use Rattle.steps.specs.declared.ProbeInput.{ProbeInput}
 use Rattle.rows.specs.Store.{unlaid}
 
 pub code-back : (b c : ℕ) → c < 16 → withCode b c / 16 % 16 ≡ c
@@ -70,24 +66,3 @@ pub bits-below : (b c : ℕ) (v : Bool) → c < 16 → laidBits (withCode (cond 
 unfolding laidBits
 bits-below b c true h = rw (second (unlaid b) c, fourth (unlaid b) c, high (unlaid b) c h, second-left b, fourth-left b, high-left b)
 bits-below b c false h = rw (second b c, fourth b c, high b c h)
-
--- a probe's code
-kind-small : (a : AvailableSpace) → availableKind a < 4
-unfolding availableKind
-kind-small (Definite x) = omega arith
-kind-small MinContent = omega arith
-kind-small MaxContent = omega arith
-
-bit-small : (b : Bool) → bit b < 2
-bit-small true = omega arith
-bit-small false = omega arith
-
-pub code-small : (q : ProbeInput) → probeCode q < 16
-unfolding probeCode
-code-small q =
-    let a = kind-small (q .available) in
-    let b = bit-small (isSome (q .height)) in
-    omega arith
-
-pub part-small : (b : ℕ) → b / 16 % 16 < 16
-part-small b = omega arith

@@ -13,11 +13,12 @@ use Rattle.tree.specs.Tree.{Tree, Forest, node, none, more, countT, depthT, dep
 use Rattle.tree.proofs.Laws.{flatF-none, flatF-more, depthF-more, length-flatT}
 use Rattle.steps.specs.Page.{Cell}
 use Rattle.steps.specs.Probe.{Widest, probeF}
+use Rattle.steps.proofs.Clauses.{probeF-none}
 use Rattle.walks.specs.Tables.{oldNumbers, oldWords, TabledT, TabledF}
 use Rattle.walks.proofs.Parts.{Left, child-of, left-begin, left-none, left-some}
 use Rattle.probing.specs.Passed.{passedNumbers, passedWords}
 use Rattle.probing.specs.Contract.{widenedT, AreT, AreF}
-use Rattle.probing.proofs.Clauses.{probeF-none, probeF-more, andThen, count-widened}
+use Rattle.probing.proofs.Clauses.{widened-more, andThen, count-widened}
 
 pub record Rest (ws : List ℕ) (xs rs : List Float) (ms es : List ℕ) (b : ℕ) (a : AvailableSpace) (ts : Forest Cell) (m : Float) (i : ℕ) : Type 0 where
   pub left : Forest Cell
@@ -53,7 +54,7 @@ module _ (ws : List ℕ) (xs rs : List Float) (ms es : List ℕ) (b : ℕ) (a : 
   turn-of (more (node l ks) us) q p h sh se dr dm lt =
       let t : Tree Cell = node l ks in
       let k = child-of ws xs rs ms es b i e l ks us q p h ed in
-      let one : probeF (more t us) a m ≡ andThen (widenedT m a t) (probeF us a) = probeF-more t us a m in
+      let one : probeF (more t us) a m ≡ andThen (widenedT m a t) (probeF us a) = widened-more t us a m in
       let n : countT (widenedT m a t .nodes) ≡ countT t = count-widened m a t in
       record {
         some = k .some;

@@ -2,13 +2,13 @@
 use mathlib.Core.Path.{_≡_}
 use mathlib.Core.Bool.{Bool, not, _&&_}
 use mathlib.Core.List.{List, _++_, map}
-use Prim.Native.Nat.{ℕ, suc, _+_, _*_, _≤_}
+use Prim.Native.Nat.{ℕ, suc, _*_}
 use lib.ListN.{length}
 use lib.Ieee.{Float}
 use Rattle.geometry.specs.Geometry.{zeroF}
 use Rattle.util.specs.Math.{larger}
 use Rattle.length.specs.declared.AvailableSpace.{AvailableSpace}
-use Rattle.tree.specs.Tree.{Tree, Forest, node, more, countT, countF, depthT, depthF, flatT, flatF, mapT, rootT}
+use Rattle.tree.specs.Tree.{Tree, Forest, node, flatT, flatF, mapT, rootT}
 use Rattle.steps.specs.Width.{stepF, outerWidth}
 use Rattle.steps.specs.Row.{Row, rowNumbers, rowWords}
 use Rattle.steps.specs.Results.{listed}
@@ -22,20 +22,9 @@ use Rattle.steps.specs.declared.Want.the-variants as want
 use Rattle.rows.specs.Store.{clearedRow}
 use Rattle.rows.specs.Edited.{touched}
 use Rattle.walks.specs.Tables.{TabledT, TabledF}
+-- some tree, or some forest, has these tables: what a caller has to bring
+pub use Rattle.walks.specs.Tables.{IsTree, IsForest}
 use Rattle.probing.specs.Passed.{passedNumbers, passedWords}
-
--- some tree has these tables; no deeper than `depth`, and its numbers are a page's
-pub record IsTree (ws : List ℕ) (xs rs : List Float) (ms es : List ℕ) (b depth : ℕ) : Type 0 where
-  pub tree : Tree Cell
-  pub tabled : TabledT ws xs rs ms es b tree
-  pub deep : depthT tree ≤ depth
-  pub fit : b + countT tree ≤ 1024
-
-pub record IsForest (ws : List ℕ) (xs rs : List Float) (ms es : List ℕ) (b depth : ℕ) : Type 0 where
-  pub forest : Forest Cell
-  pub tabled : TabledF ws xs rs ms es b forest
-  pub deep : depthF forest ≤ depth
-  pub fit : b + countF forest ≤ 1024
 
 -- a row and n more
 pub record Rows (rs : List Float) (ms : List ℕ) : Type 0 where

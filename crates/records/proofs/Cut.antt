@@ -10,7 +10,6 @@ use lib.Dec.{ltb}
 use lib.Ieee.{Float}
 use borrow.Author.Tests.{lt-ltb, le-ltb, ltb-true, ltb-false}
 use Rattle.tree.specs.Tree.{Tree}
-use Rattle.rows.proofs.Listed.{length-listed}
 use Rattle.steps.specs.Row.{Row}
 use Rattle.steps.specs.Scan.{lowest}
 use Rattle.steps.specs.Page.{pageOf}
@@ -23,6 +22,7 @@ use Rattle.steps.specs.declared.Tested.{Tested}
 use Rattle.steps.specs.declared.Tested.the-variants.{Pass, Refuse}
 use Rattle.steps.specs.declared.Found.{Found}
 use Rattle.steps.specs.declared.Found.the-variants.{Nowhere, At}
+use Rattle.steps.proofs.Listed.{length-listed}
 use Rattle.layout.specs.Public.{Replied}
 
 -- ---- the front of cut memory

@@ -1,7 +1,7 @@
 -- The loop of `clear_probes`: what is done and what is left of a list of rows, and one turn.
 use mathlib.Core.Path.{_≡_, refl, sym, ap, _∙_}
 use mathlib.Core.List.{List, [], _∷_, _++_, append-assoc, append-nil, map}
-use Prim.Native.Nat.{ℕ, zero, suc, _+_, _*_, _<_, _≤_}
+use Prim.Native.Nat.{ℕ, _+_, _*_, _<_, _≤_}
 use native.Mathlib.Omega.{arith}
 use lib.ListN.{length, getD, set, length-append}
 use lib.Ieee.{Float}
@@ -9,8 +9,8 @@ use Rattle.geometry.specs.Geometry.{zeroF}
 use Rattle.tree.proofs.Lists.{getD-in, set-in}
 use Rattle.steps.specs.Row.{Row, rowNumbers, rowWords, noted, noProbe, withCode}
 use Rattle.steps.specs.Results.{listed}
+use Rattle.steps.proofs.Listed.{listed-nil, listed-cons, listed-append, length-listed}
 use Rattle.rows.specs.Store.{clearedRow}
-use Rattle.rows.proofs.Listed.{listed-nil, listed-cons, listed-append, length-listed}
 
 pub record Rest (rs : List Float) (ms : List ℕ) (l : List Row) (i : ℕ) : Type 0 where
   pub done : List Row

@@ -7,6 +7,7 @@ use native.Mathlib.Omega.{arith}
 use lib.ListN.{take, drop}
 use lib.Dec.{eqb, ltb}
 use borrow.Author.Tests.{eq-eqb, ne-eqb, eqb-true, not-false}
+use Rattle.limits.specs.Bools.{or-left, or-right}
 use Rattle.style.specs.Codes.{codeAt}
 use Rattle.style.specs.Style.{wordAt}
 use Rattle.steps.specs.Scan.{scan, atNode, lowest, some, howMany}
@@ -16,7 +17,7 @@ use Rattle.steps.specs.declared.Found.{Found}
 use Rattle.steps.specs.declared.Found.the-variants.{Nowhere, At}
 use Rattle.tables.specs.TreeCheck.{PartOf, CheckedPart}
 use Rattle.tables.proofs.ScanLaws.{next-yes, next-no, none-left}
-use Rattle.tables.proofs.Counting.{or-no-1, or-no-2, count-none}
+use Rattle.tables.proofs.Counting.{count-none}
 use Rattle.tables.proofs.Fronts.{below-root}
 use Rattle.tables.proofs.Parts.{part-nodes, part-of}
 
@@ -52,10 +53,10 @@ module _ (ws : List ℕ) where
   root-leaf some e = at-root some (root-test ∙ rw (e, or-true (eqb (wordAt ws 0 0) 0), or-true (not (eqb (wordAt ws 0 0) (nodesIn ws)))))
 
   pub root-whole : badTree ws 0 ≡ false → wordAt ws 0 0 ≡ nodesIn ws
-  root-whole e = eqb-true _ _ (not-false _ (or-no-1 (not (eqb (wordAt ws 0 0) (nodesIn ws))) _ (sym root-test ∙ e)))
+  root-whole e = eqb-true _ _ (not-false _ (or-left (not (eqb (wordAt ws 0 0) (nodesIn ws))) _ (sym root-test ∙ e)))
 
   pub root-no-leaf : badTree ws 0 ≡ false → (eqb (codeAt (wordAt ws 0 1) 0) 1 && ltb 1 (wordAt ws 0 0)) ≡ false
-  root-no-leaf e = or-no-2 (eqb (wordAt ws 0 0) 0) _ (or-no-2 (not (eqb (wordAt ws 0 0) (nodesIn ws))) _ (sym root-test ∙ e))
+  root-no-leaf e = or-right (eqb (wordAt ws 0 0) 0) _ (or-right (not (eqb (wordAt ws 0 0) (nodesIn ws))) _ (sym root-test ∙ e))
 
   module _ (some : nodesIn ws ≡ 0 → ⊥) (whole : wordAt ws 0 0 ≡ nodesIn ws) where
     pub root-fine : (eqb (codeAt (wordAt ws 0 1) 0) 1 && ltb 1 (wordAt ws 0 0)) ≡ false → badTree ws 0 ≡ false

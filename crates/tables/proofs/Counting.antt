@@ -1,35 +1,12 @@
 -- Laws of `howMany`, and of tests that hold together.
 use mathlib.Core.Path.{_≡_, refl, sym, ap, _∙_}
-use mathlib.Core.Bool.{Bool, true, false, cond, _&&_, _||_}
+use mathlib.Core.Bool.{Bool, true, false, cond, _&&_}
 use Prim.Native.Nat.{ℕ, zero, suc, _+_, _<_, _≤_}
 use native.Mathlib.Omega.{arith}
 use Rattle.steps.specs.Scan.{howMany}
-use Rattle.tables.proofs.ScanLaws.{never}
-
-pub or-no-1 : (a b : Bool) → (a || b) ≡ false → a ≡ false
-or-no-1 true b e = e
-or-no-1 false b e = refl
-
-pub or-no-2 : (a b : Bool) → (a || b) ≡ false → b ≡ false
-or-no-2 true b e = never e
-or-no-2 false b e = e
-
-pub and-yes-1 : (a b : Bool) → (a && b) ≡ true → a ≡ true
-and-yes-1 true b e = refl
-and-yes-1 false b e = e
-
-pub and-yes-2 : (a b : Bool) → (a && b) ≡ true → b ≡ true
-and-yes-2 true b e = e
-and-yes-2 false b e = never (sym e)
 
 pub both : (a b : Bool) → a ≡ true → b ≡ true → (a && b) ≡ true
 both a b e f = rw (e, f)
-
--- two tests that hold together are one
-pub one-test : (a b : Bool) → (a ≡ true → b ≡ true) → (b ≡ true → a ≡ true) → a ≡ b
-one-test true b f g = sym (f refl)
-one-test false true f g = g refl
-one-test false false f g = refl
 
 module _ (p : ℕ → Bool) where
   pub count-none : howMany p 0 ≡ 0

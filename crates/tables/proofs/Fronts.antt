@@ -12,13 +12,14 @@ use native.Mathlib.Omega.{arith}
 use native.Mathlib.Nat.{eq-or-lt-of-le}
 use lib.Dec.{eqb, ltb, leb}
 use borrow.Author.Tests.{ltb-true, ltb-false, lt-ltb, le-ltb, leb-true, le-leb, eqb-true, eqb-false, eq-eqb, ne-eqb}
+use Rattle.limits.specs.Bools.{or-left, or-right, and-fst, and-snd, one-test}
 use Rattle.style.specs.Codes.{codeAt}
 use Rattle.style.specs.Style.{wordAt}
 use Rattle.steps.specs.Scan.{some, howMany}
 use Rattle.steps.specs.Noes.{endAt, holds, badTree}
 use Rattle.tables.specs.TreeCheck.{Front, nodeFault}
 use Rattle.tables.proofs.ScanLaws.{Clear, some-is, is-some, not-some}
-use Rattle.tables.proofs.Counting.{or-no-1, or-no-2, and-yes-1, and-yes-2, both, one-test, count-none, count-yes, count-more, count-same}
+use Rattle.tables.proofs.Counting.{both, count-none, count-yes, count-more, count-same}
 
 -- a node that is not at fault
 pub record Fine (size style room depth : ℕ) : Type 0 where
@@ -30,12 +31,12 @@ pub record Fine (size style room depth : ℕ) : Type 0 where
 pub fine : (size style room depth : ℕ) → nodeFault size style room depth ≡ false → Fine size style room depth
 unfolding nodeFault
 fine size style room depth e =
-    let a = or-no-2 (eqb size 0) _ e in
-    let b = or-no-2 (ltb room size) _ a in
-    let x : (size ≡ 0) → ⊥ = eqb-false _ _ (or-no-1 (eqb size 0) _ e) in
-    let y : size ≤ room = ltb-false _ _ (or-no-1 (ltb room size) _ a) in
-    let z : (depth ≡ 0) → ⊥ = eqb-false _ _ (or-no-2 (eqb (codeAt style 0) 1 && ltb 1 size) _ b) in
-    record { has = omega arith; fits = y; deep = omega arith; leaf = or-no-1 (eqb (codeAt style 0) 1 && ltb 1 size) _ b }
+    let a = or-right (eqb size 0) _ e in
+    let b = or-right (ltb room size) _ a in
+    let x : (size ≡ 0) → ⊥ = eqb-false _ _ (or-left (eqb size 0) _ e) in
+    let y : size ≤ room = ltb-false _ _ (or-left (ltb room size) _ a) in
+    let z : (depth ≡ 0) → ⊥ = eqb-false _ _ (or-right (eqb (codeAt style 0) 1 && ltb 1 size) _ b) in
+    record { has = omega arith; fits = y; deep = omega arith; leaf = or-left (eqb (codeAt style 0) 1 && ltb 1 size) _ b }
 
 module _ (ws : List ℕ) where
   holds-yes : (i j : ℕ) → i < endAt ws j → holds ws i j ≡ true
@@ -67,8 +68,8 @@ module _ (ws : List ℕ) where
   -- a sound node's run ends within each run that holds it
   pub nested : (i j : ℕ) → 0 < i → badTree ws i ≡ false → j < i → i < endAt ws j → endAt ws i ≤ endAt ws j
   nested i j pos e l h =
-      let a = or-no-2 (eqb (wordAt ws i 0) 0) _ (sym (bad-parts i pos) ∙ e) in
-      let b : crosses i j ≡ false = not-some (crosses i) i (or-no-1 (some (crosses i) i) _ a) j l in
+      let a = or-right (eqb (wordAt ws i 0) 0) _ (sym (bad-parts i pos) ∙ e) in
+      let b : crosses i j ≡ false = not-some (crosses i) i (or-left (some (crosses i) i) _ a) j l in
       let c : (true && ltb (endAt ws j) (endAt ws i)) ≡ false = ap (λ (x : Bool). x && ltb (endAt ws j) (endAt ws i)) (sym (holds-yes i j h)) ∙ b in
       ltb-false _ _ c
 
@@ -79,8 +80,8 @@ module _ (ws : List ℕ) where
         there : some (crosses i) i ≡ true → ltb (e - i) (wordAt ws i 0) ≡ true
         there q =
             let t = is-some (crosses i) i q in
-            let h : i < endAt ws (t .place) = holds-true i (t .place) (and-yes-1 (holds ws i (t .place)) _ (t .takes)) in
-            let g : endAt ws (t .place) < endAt ws i = ltb-true _ _ (and-yes-2 (holds ws i (t .place)) _ (t .takes)) in
+            let h : i < endAt ws (t .place) = holds-true i (t .place) (and-fst (holds ws i (t .place)) _ (t .takes)) in
+            let g : endAt ws (t .place) < endAt ws i = ltb-true _ _ (and-snd (holds ws i (t .place)) _ (t .takes)) in
             let a : e ≤ endAt ws (t .place) = f .around (t .place) (t .within) h in
             lt-ltb (e - i) (wordAt ws i 0) (omega arith)
 

@@ -16,7 +16,7 @@ use Rattle.tree.specs.Tree.{Forest, node, none, more, countT, countF, depthT, d
 use Rattle.tree.specs.Table.{Entry, entryOf, from, parseF, parseT}
 use Rattle.tree.proofs.Laws.{countT-node, flatT-node, flatF-none, flatF-more, depthT-node, depthF-none, depthF-more, mapT-node}
 use Rattle.tree.proofs.Lists.{from-zero, from-suc, from-add, length-from}
-use Rattle.tree.proofs.Parse.{entries-F}
+use Rattle.tree.proofs.Parse.{entries-F, parse-more}
 use Rattle.style.specs.Codes.{codeAt, kindOf}
 use Rattle.style.specs.Style.{wordAt, styleAt}
 use Rattle.steps.specs.Width.{isLeaf}
@@ -36,10 +36,6 @@ pub record Parsed {A : Type 0} (p : A → Bool) (f : ℕ → Entry A) (n : ℕ) 
   pub shallow : depthT (parseT f n) ≤ 32
   pub count : countT (parseT f n) ≡ n
   pub leaves : LeavesT p (parseT f n)
-
-parse-more : {A : Type 0} (k : ℕ) (e : Entry A) (l : List (Entry A)) → parseF (suc k) (e ∷ l) ≡ more (node (e .label) (parseF k (take (e .size - 1) l))) (parseF k (drop (e .size - 1) l))
-unfolding parseF
-parse-more k e l = refl
 
 parse-none : {A : Type 0} (k : ℕ) → parseF {A = A} k [] ≡ none
 unfolding parseF

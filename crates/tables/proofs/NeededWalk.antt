@@ -9,7 +9,7 @@ use lib.Ieee.{Float}
 use Rattle.tree.specs.Tree.{Tree, Forest, node, none, more, countF, flatT, flatF, joinF}
 use Rattle.tree.specs.Table.{Entry, entryOf, from}
 use Rattle.tree.proofs.Laws.{countT-node, countF-more, flatT-node, flatF-none, flatF-more, flat-join, joinF-none, joinF-more}
-use Rattle.tree.proofs.Lists.{from-suc, from-add, length-from, tails}
+use Rattle.tree.proofs.Lists.{from-suc, from-add, length-from, tails, cons-first, cons-rest}
 use Rattle.tree.proofs.Parse.{entries-F}
 use Rattle.style.specs.Style.{wordAt, styleAt}
 use Rattle.steps.specs.Page.{Site, nodesIn, siteAt, pageOf}
@@ -46,13 +46,6 @@ needed-in l ks e = neededT-by l ks In e
 needed-join : (ts us : Forest Site) → neededF (joinF ts us) ≡ neededF ts + neededF us
 needed-join none us = rw (joinF-none, neededF-none) (omega arith)
 needed-join (more t ts) us = rw (joinF-more, neededF-more, neededF-more, needed-join ts us) (sym (add-assoc (neededT t) (neededF ts) (neededF us)))
-
--- a list that begins
-cons-first : {B : Type 0} (x y : B) (l m : List B) → x ∷ l ≡ y ∷ m → x ≡ y
-cons-first x y l m e = cc
-
-cons-rest : {B : Type 0} (x y : B) (l m : List B) → x ∷ l ≡ y ∷ m → l ≡ m
-cons-rest x y l m e = cc
 
 abbrev sites : List ℕ → List Float → ℕ → Entry Site
 sites ws xs i = siteAt ws xs [] 0 i

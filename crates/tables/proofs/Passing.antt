@@ -8,6 +8,7 @@ use lib.ListN.{length}
 use lib.Dec.{eqb, ltb}
 use lib.Ieee.{Float}
 use borrow.Author.Tests.{ltb-false, eqb-false, eqb-true, not-false}
+use Rattle.limits.specs.Bools.{or-left, or-right}
 use Rattle.steps.specs.Scan.{lowest}
 use Rattle.steps.specs.Page.{nodesIn}
 use Rattle.steps.specs.Noes.{badTables, badTree, badCodes, badNumbers, badQuestion, refuseIf, andThen, atFault, no2, no3, no4, pageTested}
@@ -19,7 +20,6 @@ use Rattle.steps.specs.declared.Tested.the-variants.{Pass, Refuse}
 use Rattle.steps.specs.declared.Found.{Found}
 use Rattle.steps.specs.declared.Found.the-variants.{Nowhere, At}
 use Rattle.tables.specs.TreeCheck.{GoodTable}
-use Rattle.tables.proofs.Counting.{or-no-1, or-no-2}
 
 pub no-pass : {A : Type 0} {a : Answer} → Refuse a ≡ Pass → A
 no-pass e =
@@ -35,10 +35,6 @@ pub then-pass-2 : (a b : Tested) → andThen a b ≡ Pass → b ≡ Pass
 unfolding andThen
 then-pass-2 Pass b e = e
 then-pass-2 (Refuse a) b e = no-pass e
-
-pub passes : (a b : Tested) → a ≡ Pass → b ≡ Pass → andThen a b ≡ Pass
-unfolding andThen
-passes a b e f = rw (e, f)
 
 pub fault-pass : (a : ℕ → Answer) (f : Found) → atFault a f ≡ Pass → f ≡ Nowhere
 unfolding atFault
@@ -59,14 +55,14 @@ pub record Sized (ws : List ℕ) (xs : List Float) : Type 0 where
 pub sized : (ws : List ℕ) (xs : List Float) → badTables ws xs ≡ false → Sized ws xs
 unfolding badTables
 sized ws xs e =
-    let a = or-no-2 (eqb (nodesIn ws) 0) _ e in
-    let b = or-no-2 (ltb 1024 (nodesIn ws)) _ a in
-    let n : (nodesIn ws ≡ 0) → ⊥ = eqb-false _ _ (or-no-1 (eqb (nodesIn ws) 0) _ e) in
+    let a = or-right (eqb (nodesIn ws) 0) _ e in
+    let b = or-right (ltb 1024 (nodesIn ws)) _ a in
+    let n : (nodesIn ws ≡ 0) → ⊥ = eqb-false _ _ (or-left (eqb (nodesIn ws) 0) _ e) in
     record {
       some = omega arith;
-      few = ltb-false _ _ (or-no-1 (ltb 1024 (nodesIn ws)) _ a);
-      words = eqb-true _ _ (not-false _ (or-no-1 (not (eqb (length ws) (4 * nodesIn ws))) _ b));
-      numbers = eqb-true _ _ (not-false _ (or-no-2 (not (eqb (length ws) (4 * nodesIn ws))) _ b));
+      few = ltb-false _ _ (or-left (ltb 1024 (nodesIn ws)) _ a);
+      words = eqb-true _ _ (not-false _ (or-left (not (eqb (length ws) (4 * nodesIn ws))) _ b));
+      numbers = eqb-true _ _ (not-false _ (or-right (not (eqb (length ws) (4 * nodesIn ws))) _ b));
     }
 
 -- 2 to 4 are not due

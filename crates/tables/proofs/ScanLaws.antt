@@ -164,9 +164,6 @@ module _ (p : ℕ → Bool) (n : ℕ) where
       go (found m q) = is-hit p (λ _. true) false n 0 m q
       go (clear c) = never (sym e ∙ c k (omega arith) (omega arith))
 
-  pub some-not : Sound p n → some p n ≡ false
-  some-not c = is-none p (λ _. true) false n 0 (λ j g h. c j (omega arith))
-
   pub not-some : some p n ≡ false → Sound p n
   not-some e j h = go (p j) refl
     where

@@ -8,10 +8,11 @@ use lib.Dec.{ltb}
 use lib.Ieee.{Float}
 use lib.ListN.{length}
 use borrow.Author.Tests.{le-ltb, ne-eqb, ltb-true, ltb-false}
+use Rattle.limits.specs.Bools.{and-false}
 use Rattle.tree.specs.Tree.{Tree, Forest, node, none, more, countT, countF, depthT, depthF, flatT, flatF}
 use Rattle.tree.specs.Table.{Entry, entryOf, from, parseT}
 use Rattle.tree.proofs.Laws.{countT-node, countF-none, countF-more, flatT-node, flatF-more, depthT-node, depthF-more}
-use Rattle.tree.proofs.Lists.{from-suc, from-add, length-from, heads, tails}
+use Rattle.tree.proofs.Lists.{from-suc, from-add, length-from, heads, tails, cons-first, cons-rest}
 use Rattle.tree.proofs.Parse.{entries-T}
 use Rattle.style.specs.Style.{wordAt}
 use Rattle.steps.specs.Scan.{lowest}
@@ -25,17 +26,6 @@ use Rattle.tables.proofs.Fronts.{fine, bad-is, inside, beyond, below-ro
 use Rattle.tables.proofs.CheckRoot.{root-fine}
 use Rattle.tables.proofs.GoodPage.{good-parse, leafSite, site-size, site-leaf}
 use Rattle.tables.proofs.Exactly.{Exactly}
-
--- a list that begins
-cons-first : {B : Type 0} (x y : B) (l m : List B) → x ∷ l ≡ y ∷ m → x ≡ y
-cons-first x y l m e = cc
-
-cons-rest : {B : Type 0} (x y : B) (l m : List B) → x ∷ l ≡ y ∷ m → l ≡ m
-cons-rest x y l m e = cc
-
-and-false : (b : Bool) → (b && false) ≡ false
-and-false true = refl
-and-false false = refl
 
 leaf-at : {A : Type 0} (p : A → Bool) (a : A) (ks : Forest A) → LeavesT p (node a ks) → p a ≡ true → ks ≡ none
 unfolding LeavesT
@@ -105,9 +95,6 @@ module _ {A : Type 0} (ws : List ℕ) (f : ℕ → Entry A) (sizes : (i : ℕ) �
   module _ (i d k m c : ℕ) (sum : c ≡ k + m) (fr : Front ws i (i + c) d) (n : Node i k (i + c) d) where
     some : 0 < k
     some = let g = fine _ _ _ _ (n .ok) in let s = n .size in omega arith
-
-    within : k ≤ c
-    within = omega arith
 
     after : Front ws (i + k) (i + k + m) d
     after =

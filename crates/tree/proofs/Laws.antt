@@ -1,13 +1,14 @@
 -- Laws of trees and of their flat tables.
 --     *-node, *-none, *-more          the clauses, as equations: proofs rewrite by these and leave the definitions shut
 --     length-flatT, length-flatF      a table of k entries for each node has k times as many as nodes
---     flat-map*, flat-join, count-*   tables and sizes of changed trees
+--     flat-map*, flat-join, count-*, depth-map*   tables, sizes and depth of changed trees
+--     flat-const*                     a table in which all nodes have the same entries
 use mathlib.Core.Path.{_≡_, refl, sym, ap, _∙_}
-use mathlib.Core.List.{List, [], _∷_, _++_, append-assoc}
-use Prim.Native.Nat.{ℕ, zero, suc, _+_, _*_, max}
+use mathlib.Core.List.{List, [], _++_, append-assoc}
+use Prim.Native.Nat.{ℕ, suc, _+_, _*_, max}
 use native.Mathlib.Omega.{arith}
-use native.Mathlib.Nat.{mul-zero, mul-suc, mul-add, add-assoc}
-use lib.ListN.{length, length-append}
+use native.Mathlib.Nat.{mul-zero, mul-suc, mul-add, add-assoc, add-comm}
+use lib.ListN.{length, replicate, length-append, replicate-append-replicate}
 use Rattle.tree.specs.Tree.{Tree, Forest, node, none, more, countT, countF, flatT, flatF, depthT, depthF, mapT, mapF, rootT, onRoot, joinF}
 
 pub countT-node : {A : Type 0} (a : A) (ks : Forest A) → countT (node a ks) ≡ suc (countF ks)
@@ -111,9 +112,35 @@ mutual
   map-mapF f g none = refl
   map-mapF f g (more t ts) = rw (map-mapT f g t, map-mapF f g ts)
 
-pub count-onRoot : {A : Type 0} (f : A → A) (t : Tree A) → countT (onRoot f t) ≡ countT t
-unfolding onRoot countT
-count-onRoot f (node a ks) = refl
+mutual
+  unfolding mapT depthT
+
+  pub depth-mapT : {A B : Type 0} (f : A → B) (t : Tree A) → depthT (mapT f t) ≡ depthT t
+  depth-mapT f (node a ks) = ap suc (depth-mapF f ks)
+
+  pub depth-mapF : {A B : Type 0} (f : A → B) (ts : Forest A) → depthF (mapF f ts) ≡ depthF ts
+  depth-mapF f none = refl
+  depth-mapF f (more t ts) = rw (depth-mapT f t, depth-mapF f ts)
+
+mutual
+  unfolding mapT
+
+  pub map-id-T : {A : Type 0} (t : Tree A) → mapT (λ (a : A). a) t ≡ t
+  map-id-T (node a ks) = ap (node a) (map-id-F ks)
+
+  pub map-id-F : {A : Type 0} (ts : Forest A) → mapF (λ (a : A). a) ts ≡ ts
+  map-id-F none = refl
+  map-id-F (more t ts) = rw (map-id-T t, map-id-F ts)
+
+-- every node adds the same k entries
+module _ {A B : Type 0} (l : List B) (z : B) (k : ℕ) (each : l ≡ replicate k z) where
+  mutual
+    pub flat-constT : (t : Tree A) → flatT (λ _ (_ : A). l) t ≡ replicate (k * countT t) z
+    flat-constT (node a ks) = flatT-node (λ _ (_ : A). l) a ks ∙ rw (flat-constF ks, each, replicate-append-replicate, countT-node, mul-suc) (ap (λ (n : ℕ). replicate n z) (add-comm k (k * countF ks)))
+
+    pub flat-constF : (ts : Forest A) → flatF (λ _ (_ : A). l) ts ≡ replicate (k * countF ts) z
+    flat-constF none = flatF-none (λ _ (_ : A). l) ∙ rw (countF-none A) (ap (λ (n : ℕ). replicate n z) (sym (mul-zero k)))
+    flat-constF (more t ts) = flatF-more (λ _ (_ : A). l) t ts ∙ rw (flat-constT t, flat-constF ts, replicate-append-replicate, countF-more, mul-add)
 
 pub joinF-none : {A : Type 0} (us : Forest A) → joinF none us ≡ us
 unfolding joinF

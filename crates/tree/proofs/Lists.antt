@@ -2,14 +2,16 @@
 --     getD-in, set-in           the element behind q and x
 --     part-in, before-in, after-in, post-in   the part behind q that is as long as x, and what stands around it
 --     tail-part, tail-put       `&s[k..]`, and a `&mut s[k..]` that came back
+--     cons-first, cons-rest     a list that begins
 --     from-*                    lists that are made of their places
+--     map-from, map-append      each element changed
 use mathlib.Core.Path.{_≡_, refl, sym, ap, _∙_}
-use mathlib.Core.List.{List, [], _∷_, _++_, append-assoc, append-nil}
-use Prim.Native.Nat.{ℕ, zero, suc, _+_, _*_, _-_, _≤_, _<_}
+use mathlib.Core.List.{List, [], _∷_, _++_, map, append-assoc, append-nil}
+use Prim.Native.Nat.{ℕ, zero, suc, _+_, _-_, _≤_, _<_}
 use native.Mathlib.Omega.{arith}
-use native.Mathlib.Nat.{add-zero, add-suc}
+use native.Mathlib.Nat.{add-zero}
 use lib.ListN.{length, getD, set, take, drop, length-append, length-drop, drop-of-length-le}
-use lib.Seq.{getD-at, set-at, take-at, drop-at, take-all, length-take-le, getD-drop, getD-take}
+use lib.Seq.{getD-at, set-at, take-at, drop-at, take-all}
 use borrow.Rule.Slice.PartMut.{putMid, postOf}
 use Rattle.tree.specs.Table.{from}
 
@@ -38,15 +40,19 @@ module _ {A : Type 0} where
       let h : length (drop k l) ≤ length l - k = simp length-drop (omega arith) in
       rw (drop-of-length-le (drop k l) h, append-nil)
 
-  pub drop-front : (k : ℕ) (l ys : List A) → k ≤ length l → drop k (take k l ++ ys) ≡ ys
-  drop-front k l ys h = drop-at (take k l) ys k (length-take-le k l h)
-
   -- two lists that begin alike and are as long there
   pub heads : (p q x y : List A) → length p ≡ length q → p ++ x ≡ q ++ y → p ≡ q
   heads p q x y h e = sym (take-at p x (length p) refl) ∙ ap (take (length p)) e ∙ take-at q y (length p) (sym h)
 
   pub tails : (p q x y : List A) → length p ≡ length q → p ++ x ≡ q ++ y → x ≡ y
   tails p q x y h e = sym (drop-at p x (length p) refl) ∙ ap (drop (length p)) e ∙ drop-at q y (length p) (sym h)
+
+  -- a list that begins
+  pub cons-first : (x y : A) (l m : List A) → x ∷ l ≡ y ∷ m → x ≡ y
+  cons-first x y l m e = cc
+
+  pub cons-rest : (x y : A) (l m : List A) → x ∷ l ≡ y ∷ m → l ≡ m
+  cons-rest x y l m e = cc
 
   pub from-zero : (f : ℕ → A) (i : ℕ) → from f i 0 ≡ []
   unfolding from
@@ -81,8 +87,16 @@ module _ {A : Type 0} where
       let p : suc (a + i) ≡ a + suc i = omega arith in
       rw (h i (omega arith), p) (ap (λ (l : List A). g (a + i) ∷ l) (from-shift f g a (suc i) n (λ k q. h k (omega arith))))
 
-  pub getD-from : (f : ℕ → A) (i n k : ℕ) (d : A) → k < n → getD (from f i n) k d ≡ f (i + k)
+  pub from-next : (f : ℕ → A) (i n : ℕ) → from f (suc i) n ≡ from (λ (k : ℕ). f (suc k)) i n
   unfolding from
-  getD-from f i zero k d h = absurd (omega arith)
-  getD-from f i (suc n) zero d h = ap f (sym (add-zero i))
-  getD-from f i (suc n) (suc k) d h = getD-from f (suc i) n k d (omega arith) ∙ ap f (omega arith)
+  from-next f i zero = refl
+  from-next f i (suc n) = ap (λ (l : List A). f (suc i) ∷ l) (from-next f (suc i) n)
+
+pub map-from : {A B : Type 0} (g : A → B) (f : ℕ → A) (i n : ℕ) → map g (from f i n) ≡ from (λ (k : ℕ). g (f k)) i n
+unfolding from
+map-from g f i zero = refl
+map-from {B = B} g f i (suc n) = ap (λ (l : List B). g (f i) ∷ l) (map-from g f (suc i) n)
+
+pub map-append : {A B : Type 0} (g : A → B) (l m : List A) → map g (l ++ m) ≡ map g l ++ map g m
+map-append g [] m = refl
+map-append {B = B} g (x ∷ l) m = ap (λ (z : List B). g x ∷ z) (map-append g l m)

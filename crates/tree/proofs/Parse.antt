@@ -1,15 +1,14 @@
 -- The parser finds a tree again from its entries, so no other tree has them.
 use mathlib.Core.Path.{_≡_, refl, sym, ap, _∙_}
-use mathlib.Core.List.{List, [], _∷_, _++_, append-assoc}
-use Prim.Native.Nat.{ℕ, zero, suc, _+_, _-_, _≤_}
+use mathlib.Core.List.{List, _∷_, _++_, append-assoc}
+use Prim.Native.Nat.{ℕ, zero, suc, _-_, _≤_}
 use native.Mathlib.Omega.{arith}
-use native.Mathlib.Nat.{mul-one}
 use lib.ListN.{length, take, drop}
 use lib.Seq.{take-at, drop-at}
 use Rattle.tree.specs.Tree.{Tree, Forest, node, none, more, countT, countF, flatT, flatF}
 use Rattle.tree.specs.Table.{Entry, entryOf, from, parseF, parseT}
-use Rattle.tree.proofs.Laws.{countT-node, countF-more, countF-none, flatT-node, flatF-none, flatF-more, length-flatF, length-flatT}
-use Rattle.tree.proofs.Lists.{from-suc, length-from}
+use Rattle.tree.proofs.Laws.{countT-node, countF-more, flatT-node, flatF-none, flatF-more, length-flatF, length-flatT}
+use Rattle.tree.proofs.Lists.{from-suc, length-from, cons-first, cons-rest}
 
 pub entries-F : {A : Type 0} (ts : Forest A) → length (flatF entryOf ts) ≡ countF ts
 entries-F ts = length-flatF entryOf 1 (λ _ _. refl) ts ∙ omega arith
@@ -17,7 +16,7 @@ entries-F ts = length-flatF entryOf 1 (λ _ _. refl) ts ∙ omega arith
 pub entries-T : {A : Type 0} (t : Tree A) → length (flatT entryOf t) ≡ countT t
 entries-T t = length-flatT entryOf 1 (λ _ _. refl) t ∙ omega arith
 
-parse-more : {A : Type 0} (k : ℕ) (e : Entry A) (l : List (Entry A)) → parseF (suc k) (e ∷ l) ≡ more (node (e .label) (parseF k (take (e .size - 1) l))) (parseF k (drop (e .size - 1) l))
+pub parse-more : {A : Type 0} (k : ℕ) (e : Entry A) (l : List (Entry A)) → parseF (suc k) (e ∷ l) ≡ more (node (e .label) (parseF k (take (e .size - 1) l))) (parseF k (drop (e .size - 1) l))
 unfolding parseF
 parse-more k e l = refl
 
@@ -33,13 +32,6 @@ parse-flatF (suc k) (more (node a ks) us) h =
     let c3 = take-at (flatF entryOf ks) (flatF entryOf us) (countF ks) (entries-F ks) in
     let c4 = drop-at (flatF entryOf ks) (flatF entryOf us) (countF ks) (entries-F ks) in
     rw e1 (parse-more k (record { size = suc (countF ks); label = a }) (flatF entryOf ks ++ flatF entryOf us) ∙ rw (s, c3, c4, parse-flatF k ks (omega arith), parse-flatF k us (omega arith)))
-
--- a list that begins
-cons-first : {B : Type 0} (x y : B) (l m : List B) → x ∷ l ≡ y ∷ m → x ≡ y
-cons-first x y l m e = cc
-
-cons-rest : {B : Type 0} (x y : B) (l m : List B) → x ∷ l ≡ y ∷ m → l ≡ m
-cons-rest x y l m e = cc
 
 -- a table that is a tree's: the parser gives that tree
 pub parse-is : {A : Type 0} (f : ℕ → Entry A) (n : ℕ) (t : Tree A) → from f 0 n ≡ flatT entryOf t → parseT f n ≡ t

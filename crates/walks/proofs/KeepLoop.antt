@@ -1,7 +1,7 @@
 -- The loop of `keep_below`: what is left of a preorder run is a forest at every node; one turn in three ways.
 use mathlib.Core.Path.{_≡_, refl, sym, ap, _∙_}
-use mathlib.Core.List.{List, [], _∷_, _++_, append-assoc, append-nil}
-use Prim.Native.Nat.{ℕ, zero, suc, _+_, _*_, _-_, _/_, _%_, _<_, _≤_}
+use mathlib.Core.List.{List, [], _∷_, _++_, append-assoc}
+use Prim.Native.Nat.{ℕ, suc, _+_, _*_, _-_, _/_, _%_, _<_, _≤_}
 use native.Mathlib.Omega.{arith}
 use native.Mathlib.Numerals.{add-one}
 use lib.ListN.{length, getD, set, take, drop, replicate, length-append, length-replicate}
@@ -10,20 +10,20 @@ use borrow.Rule.Slice.PartMut.{putMid}
 use Rattle.geometry.specs.Geometry.{zeroF}
 use Rattle.style.specs.Codes.{codeAt, kindOf, positionOf}
 use Rattle.style.specs.Style.{wordAt, styleAt}
-use Rattle.style.specs.declared.Style.{Style}
-use Rattle.tree.specs.Tree.{Tree, Forest, node, none, more, countT, countF, flatT, flatF, mapT, mapF, joinF}
+use Rattle.tree.specs.Tree.{Tree, Forest, node, none, more, countT, countF, flatT, flatF, mapF, joinF}
 use Rattle.tree.specs.Table.{from}
-use Rattle.tree.proofs.Laws.{countT-node, countF-none, countF-more, flatT-node, flatF-none, flatF-more, mapT-node, mapF-none, mapF-more, flat-join, count-join, count-mapF, length-flatT}
+use Rattle.tree.proofs.Laws.{countT-node, countF-more, flatT-node, flatF-none, flatF-more, mapT-node, mapF-none, mapF-more, flat-join, count-join, count-mapF, length-flatT}
 use Rattle.tree.proofs.Lists.{getD-in, set-in, from-add}
 use Rattle.steps.specs.Width.{flowBy, flowOf}
 use Rattle.steps.specs.Row.{Row, rowNumbers, rowWords, hiddenRow, asideRow, noted, probeOf}
-use Rattle.steps.specs.Page.{Cell, Node, siteAt, staying}
+use Rattle.steps.specs.Page.{Cell, siteAt, staying}
 use Rattle.steps.specs.Kept.{laidBits, belowRow, zerosF, fixT, fixF}
 use Rattle.steps.specs.declared.Flow.{Flow}
 use Rattle.steps.specs.declared.Flow.the-variants.{Gone, Out, In}
+use Rattle.steps.proofs.Clauses.{fixF-none, fixF-more, fixT-gone, fixT-out, fixT-in}
 use Rattle.walks.specs.Tables.{siteEntry, oldNumbers, oldWords, newNumbers, newWords, TabledF}
-use Rattle.walks.proofs.Parts.{Left, Child, Parted, child-of, left-begin, left-none, left-some, parted, kids-sites}
-use Rattle.walks.proofs.FixClauses.{fixF-none, fixF-more, fixT-gone, fixT-out, fixT-in, fix-join, map-join, zero-rows, zero-marks}
+use Rattle.walks.proofs.Parts.{Left, child-of, left-begin, left-none, left-some, parted, kids-sites}
+use Rattle.walks.proofs.Zeros.{fix-join, map-join, zero-rows, zero-marks}
 
 abbrev pub fixed : Forest Cell → Forest Row
 fixed ts = fixF (mapF staying ts)

@@ -3,20 +3,19 @@
 --     Left, Child           what a loop over siblings has left, and its next child; what comes back from a call goes in between
 --     Root, down            a tree's own node, and the tables of its children
 use mathlib.Core.Path.{_≡_, refl, sym, ap, _∙_}
-use mathlib.Core.List.{List, [], _∷_, _++_, append-assoc, append-nil}
-use Prim.Native.Nat.{ℕ, zero, suc, _+_, _*_, _-_, _<_, _≤_}
+use mathlib.Core.List.{List, [], _++_, append-assoc}
+use Prim.Native.Nat.{ℕ, suc, _+_, _*_, _-_, _<_, _≤_}
 use native.Mathlib.Omega.{arith}
 use native.Mathlib.Nat.{add-zero, add-assoc}
 use lib.ListN.{length, getD, take, drop, length-append, length-take, length-drop}
-use lib.Seq.{getD-take, getD-drop, take-at, drop-at}
+use lib.Seq.{getD-take, getD-drop, take-at}
 use lib.Ieee.{Float}
 use borrow.Rule.Slice.PartMut.{putMid, postOf}
-use Rattle.style.specs.Style.{wordAt, numberAt, lengthAt, sizeAt, rectAt, measureAt, styleAt}
-use Rattle.style.specs.declared.Style.{Style}
+use Rattle.style.specs.Style.{wordAt, lengthAt, sizeAt, rectAt, styleAt}
 use Rattle.tree.specs.Tree.{Tree, Forest, node, none, more, countT, countF, flatT, flatF}
 use Rattle.tree.specs.Table.{Entry, from}
-use Rattle.tree.proofs.Laws.{countT-node, countF-none, countF-more, flatT-node, flatF-none, flatF-more, length-flatT, length-flatF}
-use Rattle.tree.proofs.Lists.{part-in, post-in, tail-part, heads, tails, from-zero, from-suc, from-add, from-shift, length-from}
+use Rattle.tree.proofs.Laws.{countT-node, countF-none, countF-more, flatT-node, flatF-more, length-flatT, length-flatF}
+use Rattle.tree.proofs.Lists.{part-in, post-in, tail-part, heads, tails, from-suc, from-add, from-shift, length-from, cons-first, cons-rest}
 use Rattle.steps.specs.Page.{Site, Cell, siteAt, named}
 use Rattle.walks.specs.Tables.{siteEntry, oldNumbers, oldWords, TabledT, TabledF}
 
@@ -40,12 +39,6 @@ pub sites-part : (ws : List ℕ) (xs : List Float) (es : List ℕ) (b a d m n : 
 sites-part ws xs es b a d m n e h =
     from-shift (siteAt (take m (drop d ws)) xs es (b + a)) (siteAt ws xs es b) a 0 n (λ k q. site-part ws xs es b a d m k e (omega arith))
     ∙ ap (λ (i : ℕ). from (siteAt ws xs es b) i n) (add-zero a)
-
-cons-first : {B : Type 0} (x y : B) (l m : List B) → x ∷ l ≡ y ∷ m → x ≡ y
-cons-first x y l m e = cc
-
-cons-rest : {B : Type 0} (x y : B) (l m : List B) → x ∷ l ≡ y ∷ m → l ≡ m
-cons-rest x y l m e = cc
 
 sites-long : (t : Tree Cell) → length (flatT siteEntry t) ≡ countT t
 sites-long t = length-flatT siteEntry 1 (λ _ _. refl) t ∙ omega arith

@@ -1,13 +1,13 @@
 -- What lent tables have to do with a tree of cells: its words (a part of the page's), its rows, and the number of its first node.
 use mathlib.Core.Path.{_≡_}
-use mathlib.Core.Bool.{Bool, cond, _||_}
+use mathlib.Core.Bool.{cond, _||_}
 use mathlib.Core.List.{List, [], _∷_}
 use Prim.Native.Nat.{ℕ, _+_, _*_, _≤_}
 use lib.ListN.{length}
 use lib.Ieee.{Float, add, binary32}
 use Rattle.style.specs.Codes.{flagAt}
 use Rattle.style.specs.Style.{wordAt}
-use Rattle.tree.specs.Tree.{Tree, Forest, node, none, more, countT, countF, flatT, flatF, mapT, mapF}
+use Rattle.tree.specs.Tree.{Tree, Forest, countT, countF, depthT, depthF, flatT, flatF, mapF}
 use Rattle.tree.specs.Table.{Entry, from}
 use Rattle.steps.specs.Row.{Row, rowNumbers, rowWords}
 use Rattle.steps.specs.Page.{Site, Cell, siteAt, staying}
@@ -45,6 +45,19 @@ pub record TabledF (ws : List ℕ) (xs rs : List Float) (ms es : List ℕ) (b : 
   pub sites-are : from (siteAt ws xs es b) 0 (countF ts) ≡ flatF siteEntry ts
   pub rows-are : rs ≡ flatF oldNumbers ts
   pub marks-are : ms ≡ flatF oldWords ts
+
+-- some tree has these tables; no deeper than `depth`, and its numbers are a page's
+pub record IsTree (ws : List ℕ) (xs rs : List Float) (ms es : List ℕ) (b depth : ℕ) : Type 0 where
+  pub tree : Tree Cell
+  pub tabled : TabledT ws xs rs ms es b tree
+  pub deep : depthT tree ≤ depth
+  pub fit : b + countT tree ≤ 1024
+
+pub record IsForest (ws : List ℕ) (xs rs : List Float) (ms es : List ℕ) (b depth : ℕ) : Type 0 where
+  pub forest : Forest Cell
+  pub tabled : TabledF ws xs rs ms es b forest
+  pub deep : depthF forest ≤ depth
+  pub fit : b + countF forest ≤ 1024
 
 -- these are the sizes and rows of a forest of rows
 pub record RowsOf (ws : List ℕ) (rs : List Float) (ms : List ℕ) (ts : Forest Row) : Type 0 where

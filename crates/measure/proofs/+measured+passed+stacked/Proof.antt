@@ -5,9 +5,10 @@ use borrow.Author.Needs.{needs}
 use lib.ListN.{length}
 use Rattle.tree.specs.Tree.{Forest}
 use Rattle.steps.specs.Page.{Site}
+use Rattle.compute.proofs.StackLoop.{start-counts}
 use Rattle.measure.specs.Contract.{SitesF}
 use Rattle.measure.proofs.Sites.{facts}
-use Rattle.measure.proofs.Loops.{StackRest, StackTurn, stack-begin, stack-turn, stack-end, start-counts, past-counts}
+use Rattle.measure.proofs.Loops.{StackRest, StackTurn, stack-begin, stack-turn, stack-end, past-counts}
 use Rattle.measure.proofs.OneNode.{leaf-measured, block-measured, gone-passed, out-passed, in-passed}
 use Prim.Native.Nat.{ℕ, _<_}
 use borrow.Fn.Kinds.{In}

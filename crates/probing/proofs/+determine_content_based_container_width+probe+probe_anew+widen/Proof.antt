@@ -5,8 +5,9 @@ use lib.ListN.{length}
 use Rattle.tree.specs.Tree.{Forest}
 use Rattle.steps.specs.Page.{Cell}
 use Rattle.walks.specs.Tables.{TabledF}
+use Rattle.walks.proofs.Given.{facts}
 use Rattle.probing.proofs.WidestLoop.{Rest, Turn, begin, turn, end}
-use Rattle.probing.proofs.OneTree.{facts, probe-stood, probe-noted, anew-leaf, anew-known, anew-below, widened-nothing, widened-outer, widened-probe}
+use Rattle.probing.proofs.OneTree.{probe-stood, probe-noted, anew-leaf, anew-known, anew-below, widened-nothing, widened-outer, widened-probe, all-rows}
 use Prim.Native.Nat.{ℕ, _+_, _*_, _-_, _≤_, _<_}
 use borrow.Fn.Kinds.{In}
 use borrow.Fn.PlainCycle.{Measures, is, falls, and}
@@ -227,7 +228,7 @@ probe-anew-is-leaf-requires : (t : ℕ) → probe-anew-lts.Need-is-leaf-requires
 probe-anew-is-leaf-requires t c κs = search needs
 
 probe-anew-clear-rest-requires : (t : ℕ) → probe-anew-lts.Need-clear-rest-requires (probe-anew-calls t) (probe-anew-at t) probe-anew.Post
-probe-anew-clear-rest-requires t c κs = let f = facts _ _ _ _ _ _ _ (c .before .before .before .before .before .before .before .before .before .before .before .pre .1) in f .all
+probe-anew-clear-rest-requires t c κs = let f = facts _ _ _ _ _ _ _ (c .before .before .before .before .before .before .before .before .before .before .before .pre .1) in all-rows (f .room) (f .whole)
 
 probe-anew-leaf-width-requires : (t : ℕ) → probe-anew-lts.Need-leaf-width-requires (probe-anew-calls t) (probe-anew-at t) probe-anew.Post
 probe-anew-leaf-width-requires t c κs = search needs
@@ -248,7 +249,7 @@ probe-anew-enum-known-width : (t : ℕ) → probe-anew-lts.Need-enum-known-width
 probe-anew-enum-known-width t c = search needs
 
 probe-anew-clear-rest-requires-2 : (t : ℕ) → probe-anew-lts.Need-clear-rest-requires-2 (probe-anew-calls t) (probe-anew-at t) probe-anew.Post
-probe-anew-clear-rest-requires-2 t c κs = let f = facts _ _ _ _ _ _ _ (c .before .before .before .before .before .before .before .before .before .before .before .before .before .before .pre .1) in f .all
+probe-anew-clear-rest-requires-2 t c κs = let f = facts _ _ _ _ _ _ _ (c .before .before .before .before .before .before .before .before .before .before .before .before .before .before .pre .1) in all-rows (f .room) (f .whole)
 
 probe-anew-enum-told : (t : ℕ) → probe-anew-lts.Need-enum-told (probe-anew-calls t) (probe-anew-at t) probe-anew.Post
 probe-anew-enum-told t c = search needs

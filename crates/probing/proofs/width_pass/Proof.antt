@@ -1,5 +1,5 @@
 use native.Mathlib.Omega.{arith}
-use Rattle.probing.proofs.OneTree.{facts}
+use Rattle.walks.proofs.Given.{facts}
 use Rattle.probing.proofs.OnePage.{kids-given, passed-known, passed-below}
 use borrow.Author.Needs.{needs}
 use Rattle.probing.proofs.width_pass.Statement.{statement}

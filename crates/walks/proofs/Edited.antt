@@ -8,12 +8,14 @@ use native.Mathlib.Nat.{add-zero}
 use lib.Dec.{eqb, ltb, leb}
 use lib.Ieee.{Float}
 use borrow.Author.Tests.{eqb-true, eqb-false, lt-ltb, le-ltb, le-leb, leb-true}
-use Rattle.tree.specs.Tree.{Tree, Forest, node, none, more, countT, flatT, flatF}
+use Rattle.tree.specs.Tree.{Tree, Forest, node, none, more, countT, flatT, flatF, mapT}
 use Rattle.tree.specs.Table.{Entry, from}
 use Rattle.tree.proofs.Laws.{flatT-node, flatF-none, flatF-more}
 use Rattle.tree.proofs.Lists.{from-zero, from-suc}
-use Rattle.steps.specs.Page.{Site, Cell, named, anyT, anyF, siteAt, edits}
+use Rattle.steps.specs.Page.{Site, Cell, named, anyT, anyF, siteAt, edits, staying}
+use Rattle.steps.specs.Kept.{editedNode}
+use Rattle.steps.proofs.Clauses.{any-mapT}
 use Rattle.walks.specs.Tables.{siteEntry}
 use Rattle.rows.specs.Edited.{inRun, touched}
 use Rattle.rows.proofs.Edits.{touched-add, touched-none}
 
@@ -97,3 +99,7 @@ any-from ws xs es b i (suc n) =
 -- edited at or below, of a tree that has these tables
 pub edited-run : (ws : List ℕ) (xs : List Float) (es : List ℕ) (b : ℕ) (t : Tree Cell) → from (siteAt ws xs es b) 0 (countT t) ≡ flatT siteEntry t → anyT edits t ≡ touched es b (countT t)
 edited-run ws xs es b t e = any-T t ∙ ap anyL (sym e) ∙ any-from ws xs es b 0 (countT t) ∙ ap (λ (k : ℕ). touched es k (countT t)) (add-zero b)
+
+pub edited-stays : (ws : List ℕ) (xs : List Float) (es : List ℕ) (b : ℕ) (t : Tree Cell) → from (siteAt ws xs es b) 0 (countT t) ≡ flatT siteEntry t → anyT editedNode (mapT staying t) ≡ touched es b (countT t)
+unfolding editedNode staying edits
+edited-stays ws xs es b t e = any-mapT editedNode staying t ∙ edited-run ws xs es b t e

@@ -1,11 +1,11 @@
 -- Laws of lists of rows that are written out.
-use mathlib.Core.Path.{_≡_, refl, sym, ap, _∙_}
+use mathlib.Core.Path.{_≡_, refl, sym}
 use mathlib.Core.List.{List, [], _∷_, _++_, append-assoc}
-use Prim.Native.Nat.{ℕ, zero, suc, _+_, _*_}
+use Prim.Native.Nat.{ℕ, _*_}
 use native.Mathlib.Omega.{arith}
 use native.Mathlib.Nat.{mul-zero, mul-suc}
 use lib.ListN.{length, length-append}
 use Rattle.steps.specs.Results.{listed}
 
 pub listed-nil : {A B : Type 0} (f : A → List B) → listed f [] ≡ []
 unfolding listed

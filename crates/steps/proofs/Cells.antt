@@ -7,18 +7,20 @@ use Rattle.util.specs.declared.OptionF32.{OptionF32}
 use Rattle.util.specs.declared.OptionF32.the-variants.{None, Some}
 use Rattle.length.specs.declared.AvailableSpace.{AvailableSpace}
 use Rattle.tree.specs.Tree.{Tree, Forest, node, none, more, mapT, mapF}
-use Rattle.tree.proofs.Laws.{mapF-none, map-mapT, map-mapF}
+use Rattle.tree.proofs.Laws.{mapF-none, map-mapT, map-mapF, map-id-T, map-id-F}
 use Rattle.steps.specs.Width.{isLeaf, stepF}
 use Rattle.steps.specs.Page.{Cell, Node, cleared, staying, probedAnew}
-use Rattle.steps.specs.Probe.{Widest, answered, stay, probeT, probeF, asked, blockProbe, probeKnown, spaceIn, widen, passBy, widthPass}
+use Rattle.steps.specs.Probe.{Widest, answered, stay, probeT, probeF, asked, blockProbe, probeKnown, spaceIn, widen, passBy, widthPass, askP}
 use Rattle.steps.specs.declared.Want.{Want}
 use Rattle.steps.specs.declared.Want.the-variants.{Nothing, Outer}
 use Rattle.steps.specs.declared.Want.the-variants as want
 use Rattle.steps.specs.declared.ProbeInput.{ProbeInput}
 use Rattle.steps.specs.declared.LayoutInput.{LayoutInput}
-use Rattle.laws.specs.Trees.{map-id-T, map-id-F}
-use Rattle.laws.specs.Clauses.{styleC, replyTo, reply-stays, reply-anew, probeT-leaf, probeT-block, probeF-none, probeF-at}
-use Rattle.laws.specs.Widths.{cellIn}
+use Rattle.steps.proofs.Clauses.{styleC, askP-stands, askP-anew, probeT-leaf, probeT-block, probeF-none, probeF-at}
+
+-- a node without what the pass noted
+abbrev pub cellIn : Node → Cell
+cellIn n = record { site = n .site; old = n .old }
 
 cleared-cells-T : (t : Tree Cell) → mapT cellIn (mapT cleared t) ≡ t
 unfolding cleared
@@ -48,18 +50,18 @@ node-cells l ks q h = go (isLeaf (l .site .style .kind)) refl
     go true e = rw (probeT-leaf l ks q e) (asked-cells l q _ ks _ (cleared-cells-F ks))
     go false e = rw (probeT-block l ks q e) (box-cells l q ks (probeKnown (l .site .style) q .width) _ (h (spaceIn (l .site .style) None (q .available)) zeroF))
 
-reply-cells : (t : Tree Cell) (q : ProbeInput) → mapT cellIn (probeT t q .nodes) ≡ t → mapT cellIn (replyTo t q .nodes) ≡ t
-reply-cells t q h = go (answered t q) refl
+ask-cells : (t : Tree Cell) (q : ProbeInput) → mapT cellIn (probeT t q .nodes) ≡ t → mapT cellIn (askP t q .nodes) ≡ t
+ask-cells t q h = go (answered t q) refl
   where
-    go : (b : Bool) → answered t q ≡ b → mapT cellIn (replyTo t q .nodes) ≡ t
-    go true e = rw (reply-stays t q e) (stay-cells t)
-    go false e = rw (reply-anew t q e) h
+    go : (b : Bool) → answered t q ≡ b → mapT cellIn (askP t q .nodes) ≡ t
+    go true e = rw (askP-stands t q e) (stay-cells t)
+    go false e = rw (askP-anew t q e) h
 
 widen-cells : (m : Float) (t : Tree Node) (g : Float → Widest) (u : Tree Cell) (us : Forest Cell) → mapT cellIn t ≡ u → ((k : Float) → mapF cellIn (g k .nodes) ≡ us) → mapF cellIn (widen m t g .nodes) ≡ more u us
 unfolding widen mapF
 widen-cells m t g u us e h = rw (e, h m)
 
-more-cells : (t : Tree Cell) (ts : Forest Cell) (a : AvailableSpace) (m : Float) → ((q : ProbeInput) → mapT cellIn (replyTo t q .nodes) ≡ t) → ((k : Float) → mapF cellIn (probeF ts a k .nodes) ≡ ts)
+more-cells : (t : Tree Cell) (ts : Forest Cell) (a : AvailableSpace) (m : Float) → ((q : ProbeInput) → mapT cellIn (askP t q .nodes) ≡ t) → ((k : Float) → mapF cellIn (probeF ts a k .nodes) ≡ ts)
     → mapF cellIn (probeF (more t ts) a m .nodes) ≡ more t ts
 more-cells t ts a m h r = go (stepF (styleC t) a) refl
   where
@@ -74,7 +76,10 @@ mutual
 
   pub cells-F : (ts : Forest Cell) (a : AvailableSpace) (m : Float) → mapF cellIn (probeF ts a m .nodes) ≡ ts
   cells-F none a m = rw (probeF-none a m) (mapF-none cellIn)
-  cells-F (more t ts) a m = more-cells t ts a m (λ q. reply-cells t q (cells-T t q)) (λ k. cells-F ts a k)
+  cells-F (more t ts) a m = more-cells t ts a m (λ q. ask-cells t q (cells-T t q)) (λ k. cells-F ts a k)
+
+pub cells-ask : (t : Tree Cell) (q : ProbeInput) → mapT cellIn (askP t q .nodes) ≡ t
+cells-ask t q = ask-cells t q (cells-T t q)
 
 page-cells : (l : Cell) (ks : Forest Cell) (w parent : OptionF32) (r : Widest) → mapF cellIn (r .nodes) ≡ ks → mapT cellIn (passBy l ks w parent r .nodes) ≡ node l ks
 unfolding passBy cleared mapT

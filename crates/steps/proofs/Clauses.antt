@@ -1,30 +1,32 @@
 -- The clauses of the two passes, each as an equation: proofs rewrite by these and leave the definitions shut.
 use mathlib.Core.Path.{_≡_, refl, ap, _∙_}
-use mathlib.Core.Bool.{Bool, true, false}
+use mathlib.Core.Bool.{Bool, true, false, cond}
 use lib.Ieee.{Float}
 use Rattle.geometry.specs.Geometry.{zeroF}
 use Rattle.util.specs.Math.{larger}
+use Rattle.util.specs.declared.OptionF32.{OptionF32}
 use Rattle.util.specs.declared.OptionF32.the-variants.{None}
 use Rattle.length.specs.declared.AvailableSpace.{AvailableSpace}
 use Rattle.style.specs.declared.Style.{Style}
 use Rattle.tree.specs.Tree.{Tree, Forest, node, none, more, mapT, mapF, rootT}
 use Rattle.steps.specs.Width.{isLeaf, flowOf, stepF, outerWidth, leafWidth}
 use Rattle.steps.specs.Edges.{frameOf}
 use Rattle.steps.specs.Stack.{startOf, stepJ}
-use Rattle.steps.specs.Row.{hiddenRow, asideRow}
-use Rattle.steps.specs.Page.{Cell, Node, cleared}
-use Rattle.steps.specs.Probe.{Probed, Widest, answered, stay, probeT, probeF, asked, blockProbe, probeKnown, spaceIn, widen}
-use Rattle.steps.specs.Kept.{Laid, kept, keep, fixT, fixF, belowRow, zerosF}
-use Rattle.steps.specs.Layout.{Stacked, layT, layF, askT, leafLaid, blockLaid, skip, aside, place}
+use Rattle.steps.specs.Height.{finished, leafOutput}
+use Rattle.steps.specs.Row.{hiddenRow, asideRow, laidRow}
+use Rattle.steps.specs.Page.{Cell, Node, cleared, staying, anyT, anyF}
+use Rattle.steps.specs.Probe.{Probed, Widest, answered, stay, probeT, probeF, askP, asked, blockProbe, probeKnown, spaceIn, widen}
+use Rattle.steps.specs.Kept.{Laid, kept, keep, keptRow, fixT, fixF, belowRow, zerosF}
+use Rattle.steps.specs.Layout.{Stacked, layT, layF, askT, leafLaid, blockLaid, skip, aside, place, alignF}
 use Rattle.steps.specs.declared.Flow.{Flow}
 use Rattle.steps.specs.declared.Flow.the-variants.{Gone, Out, In}
 use Rattle.steps.specs.declared.Want.{Want}
 use Rattle.steps.specs.declared.Want.the-variants.{Nothing, Outer}
 use Rattle.steps.specs.declared.Want.the-variants as want
 use Rattle.steps.specs.declared.ProbeInput.{ProbeInput}
 use Rattle.steps.specs.declared.LayoutInput.{LayoutInput}
 use Rattle.steps.specs.declared.Frame.{Frame}
 use Rattle.steps.specs.declared.Cursor.{Cursor}
 
 -- one of two by a test, one of three by a child's flow, or by what step F wants of it
 abbrev pub byTest : {A : Type 0} → Bool → A → A → A
@@ -53,6 +55,33 @@ layT-leaf l ks q found e = layT-by l ks q found ∙ ap (λ (b : Bool). byTest b 
 pub layT-block : (l : Node) (ks : Forest Node) (q : LayoutInput) (found : Float) → isLeaf (l .site .style .kind) ≡ false → layT (node l ks) q found ≡ stackedIn l ks q found
 layT-block l ks q found e = layT-by l ks q found ∙ ap (λ (b : Bool). byTest b (leafLaid l q ks) (stackedIn l ks q found)) e
 
+-- the rows of a laid node: its own, with its answer, and its children's
+abbrev pub stackOf : Node → Forest Node → LayoutInput → Float → Stacked
+stackOf n ks q found = layF ks (frameAt n q found) (startOf (frameAt n q found))
+
+abbrev pub shiftOf : Node → LayoutInput → Float → Cursor → OptionF32
+shiftOf n q found c = finished (n .site .style) q (frameAt n q found) c .shift
+
+pub leaf-rows : (n : Node) (ks : Forest Node) (q : LayoutInput) (found : Float) → isLeaf (n .site .style .kind) ≡ true
+    → layT (node n ks) q found .rows ≡ node (laidRow q (layT (node n ks) q found .out) (n .probe)) (zerosF ks)
+unfolding leafLaid
+leaf-rows n ks q found e = rw (layT-leaf n ks q found e)
+
+pub block-rows : (n : Node) (ks : Forest Node) (q : LayoutInput) (found : Float) → isLeaf (n .site .style .kind) ≡ false
+    → layT (node n ks) q found .rows ≡ node (laidRow q (layT (node n ks) q found .out) (n .probe)) (alignF (shiftOf n q found (stackOf n ks q found .end)) (stackOf n ks q found .rows))
+unfolding blockLaid
+block-rows n ks q found e = rw (layT-block n ks q found e)
+
+pub leaf-out : (n : Node) (ks : Forest Node) (q : LayoutInput) (found : Float) → isLeaf (n .site .style .kind) ≡ true → layT (node n ks) q found .out ≡ leafOutput (n .site .style .measure) q
+unfolding leafLaid
+leaf-out n ks q found e = rw (layT-leaf n ks q found e)
+
+pub block-out : (n : Node) (ks : Forest Node) (q : LayoutInput) (found : Float) → isLeaf (n .site .style .kind) ≡ false
+    → layT (node n ks) q found .out ≡ finished (n .site .style) q (frameAt n q found) (stackOf n ks q found .end) .output
+unfolding blockLaid
+block-out n ks q found e = rw (layT-block n ks q found e)
+
+-- the stack
 pub layF-none : (f : Frame) (c : Cursor) → layF none f c ≡ record { end = c; rows = none }
 unfolding layF
 layF-none f c = refl
@@ -68,7 +97,7 @@ layF-by : (t : Tree Node) (ts : Forest Node) (f : Frame) (c : Cursor)
 unfolding layF askT
 layF-by t ts f c = refl
 
-layF-at : (t : Tree Node) (ts : Forest Node) (f : Frame) (c : Cursor) (w : Flow) → flowOf (styleT t) ≡ w
+pub layF-at : (t : Tree Node) (ts : Forest Node) (f : Frame) (c : Cursor) (w : Flow) → flowOf (styleT t) ≡ w
     → layF (more t ts) f c ≡ byFlow w (skip c t (layF ts f)) (aside f c t (layF ts f)) (placeIn t ts f c)
 layF-at t ts f c w e = layF-by t ts f c ∙ ap (λ (v : Flow). byFlow v (skip c t (layF ts f)) (aside f c t (layF ts f)) (placeIn t ts f c)) e
 
@@ -85,9 +114,13 @@ pub askT-kept : (t : Tree Node) (q : LayoutInput) → kept t q ≡ true → askT
 unfolding askT
 askT-kept t q e = ap (λ (b : Bool). byTest b (keep t) (layT t q zeroF)) e
 
-pub askT-laid : (t : Tree Node) (q : LayoutInput) → kept t q ≡ false → askT t q ≡ layT t q zeroF
+pub askT-new : (t : Tree Node) (q : LayoutInput) → kept t q ≡ false → askT t q ≡ layT t q zeroF
 unfolding askT
-askT-laid t q e = ap (λ (b : Bool). byTest b (keep t) (layT t q zeroF)) e
+askT-new t q e = ap (λ (b : Bool). byTest b (keep t) (layT t q zeroF)) e
+
+pub keep-rows : (l : Node) (ks : Forest Node) → keep (node l ks) .rows ≡ node (keptRow l) (fixF ks)
+unfolding keep
+keep-rows l ks = refl
 
 -- below a kept node
 fixT-by : (l : Node) (ks : Forest Node)
@@ -100,6 +133,15 @@ pub fixT-at : (l : Node) (ks : Forest Node) (w : Flow) → flowOf (l .site .styl
 fixT-at l ks w e =
     fixT-by l ks
     ∙ ap (λ (v : Flow). byFlow v (node (hiddenRow (l .old .order)) (zerosF ks)) (node (asideRow (l .old .x) (l .old .y) (l .old .w) (l .old .order)) (zerosF ks)) (node (belowRow l) (fixF ks))) e
+
+pub fixT-gone : (l : Node) (ks : Forest Node) → flowOf (l .site .style) ≡ Gone → fixT (node l ks) ≡ node (hiddenRow (l .old .order)) (zerosF ks)
+fixT-gone l ks e = fixT-at l ks Gone e
+
+pub fixT-out : (l : Node) (ks : Forest Node) → flowOf (l .site .style) ≡ Out → fixT (node l ks) ≡ node (asideRow (l .old .x) (l .old .y) (l .old .w) (l .old .order)) (zerosF ks)
+fixT-out l ks e = fixT-at l ks Out e
+
+pub fixT-in : (l : Node) (ks : Forest Node) → flowOf (l .site .style) ≡ In → fixT (node l ks) ≡ node (belowRow l) (fixF ks)
+fixT-in l ks e = fixT-at l ks In e
 
 pub fixF-none : fixF none ≡ none
 unfolding fixF
@@ -137,27 +179,56 @@ abbrev pub styleC : Tree Cell → Style
 styleC t = rootT t .site .style
 
 -- what a child is answered
-unfoldable pub replyTo : Tree Cell → ProbeInput → Probed
-replyTo t q = byTest (answered t q) (stay t) (probeT t q)
+pub askP-stands : (t : Tree Cell) (q : ProbeInput) → answered t q ≡ true → askP t q ≡ stay t
+unfolding askP
+askP-stands t q e = ap (λ (b : Bool). cond b (stay t) (probeT t q)) e
 
-pub reply-stays : (t : Tree Cell) (q : ProbeInput) → answered t q ≡ true → replyTo t q ≡ stay t
-unfolding replyTo
-reply-stays t q e = ap (λ (b : Bool). byTest b (stay t) (probeT t q)) e
+pub askP-anew : (t : Tree Cell) (q : ProbeInput) → answered t q ≡ false → askP t q ≡ probeT t q
+unfolding askP
+askP-anew t q e = ap (λ (b : Bool). cond b (stay t) (probeT t q)) e
 
-pub reply-anew : (t : Tree Cell) (q : ProbeInput) → answered t q ≡ false → replyTo t q ≡ probeT t q
-unfolding replyTo
-reply-anew t q e = ap (λ (b : Bool). byTest b (stay t) (probeT t q)) e
-
-abbrev pub putAnew : Tree Cell → Forest Cell → AvailableSpace → Float → ProbeInput → Widest
-putAnew t ts a m q = widen (larger m (outerWidth (styleC t) a (replyTo t q .answer))) (replyTo t q .nodes) (probeF ts a)
+pub stay-nodes : (t : Tree Cell) → stay t .nodes ≡ mapT staying t
+unfolding stay
+stay-nodes t = refl
 
 -- what step F wants of a child decides
 abbrev pub byF : Tree Cell → Forest Cell → AvailableSpace → Float → Want → Widest
-byF t ts a m w = byWant w (widen m (mapT cleared t) (probeF ts a)) (λ v. widen (larger m v) (mapT cleared t) (probeF ts a)) (λ q. putAnew t ts a m q)
+byF t ts a m w =
+    byWant w (widen m (mapT cleared t) (probeF ts a)) (λ v. widen (larger m v) (mapT cleared t) (probeF ts a))
+    (λ q. widen (larger m (outerWidth (styleC t) a (askP t q .answer))) (askP t q .nodes) (probeF ts a))
+
+ask-by : (t : Tree Cell) (q : ProbeInput) (b : Bool) → byTest b (stay t) (probeT t q) ≡ cond b (stay t) (probeT t q)
+ask-by t q true = refl
+ask-by t q false = refl
+
+ask-is : (t : Tree Cell) (q : ProbeInput) → byTest (answered t q) (stay t) (probeT t q) ≡ askP t q
+unfolding askP
+ask-is t q = ask-by t q (answered t q)
+
+-- the clause as it is written
+abbrev put : Tree Cell → Forest Cell → AvailableSpace → Float → Probed → Widest
+put t ts a m p = widen (larger m (outerWidth (styleC t) a (p .answer))) (p .nodes) (probeF ts a)
+
+probeF-by : (t : Tree Cell) (ts : Forest Cell) (a : AvailableSpace) (m : Float) (w : Want)
+    → byWant w (widen m (mapT cleared t) (probeF ts a)) (λ v. widen (larger m v) (mapT cleared t) (probeF ts a)) (λ q. put t ts a m (byTest (answered t q) (stay t) (probeT t q))) ≡ byF t ts a m w
+probeF-by t ts a m Nothing = refl
+probeF-by t ts a m (Outer v) = refl
+probeF-by t ts a m (want.Probe q) = ap (put t ts a m) (ask-is t q)
 
 pub probeF-more : (t : Tree Cell) (ts : Forest Cell) (a : AvailableSpace) (m : Float) → probeF (more t ts) a m ≡ byF t ts a m (stepF (styleC t) a)
-unfolding probeF replyTo
-probeF-more t ts a m = refl
+unfolding probeF
+probeF-more t ts a m = probeF-by t ts a m (stepF (styleC t) a)
 
 pub probeF-at : (t : Tree Cell) (ts : Forest Cell) (a : AvailableSpace) (m : Float) (w : Want) → stepF (styleC t) a ≡ w → probeF (more t ts) a m ≡ byF t ts a m w
 probeF-at t ts a m w e = probeF-more t ts a m ∙ ap (λ (v : Want). byF t ts a m v) e
+
+-- some label of a changed tree is such
+mutual
+  unfolding anyT mapT
+
+  pub any-mapT : {A B : Type 0} (p : B → Bool) (f : A → B) (t : Tree A) → anyT p (mapT f t) ≡ anyT (λ (a : A). p (f a)) t
+  any-mapT p f (node a ks) = rw (any-mapF p f ks)
+
+  pub any-mapF : {A B : Type 0} (p : B → Bool) (f : A → B) (ts : Forest A) → anyF p (mapF f ts) ≡ anyF (λ (a : A). p (f a)) ts
+  any-mapF p f none = refl
+  any-mapF p f (more t ts) = rw (any-mapT p f t, any-mapF p f ts)

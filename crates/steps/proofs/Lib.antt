@@ -1,0 +1,6 @@
+pub mod Clauses
+pub mod Shape
+pub mod Codes
+pub mod Zeros
+pub mod Cells
+pub mod Listed
