@@ -1,5 +1,6 @@
 -- The shift of step M.
-use lib.Ieee.{Float, div, ofBits, binary32}
+use lib.Ieee.{Float, ofBits, binary32}
+use Rattle.geometry.specs.Floats.{_⊘_}
 use Rattle.util.specs.declared.OptionF32.{OptionF32}
 use Rattle.util.specs.declared.OptionF32.the-variants.{None, Some}
 use Rattle.style.specs.declared.AlignContent.{AlignContent}
@@ -13,5 +14,5 @@ twoF = ofBits binary32 0x4000_0000
 unfoldable pub alignShift : AlignContent → Float → OptionF32
 alignShift Normal free = None
 alignShift Start free = None
-alignShift Center free = Some (div binary32 free twoF)
+alignShift Center free = Some (free ⊘ twoF)
 alignShift End free = Some free

@@ -46,7 +46,7 @@ at-none b r l h e = rw (h, e)
 pub bits-of : (ws : List ℕ) (rs : List Float) (ms : List ℕ) (r : Row) (ks : Forest Row) → RowsOfT ws rs ms (node r ks) → getD ms 1 0 ≡ r .bits
 bits-of ws rs ms r ks h = ap (λ (z : List ℕ). getD z 1 0) (facts ws rs ms r ks h .marks-head)
 
-one-record : (b : ℕ) (r : Row) → (listed candidateWords (candidateOf b r ∷ []) ≡ b ∷ r .order ∷ []) × (listed candidateNumbers (candidateOf b r ∷ []) ≡ r .x ∷ r .w ∷ r .y ∷ [])
+one-record : (b : ℕ) (r : Row) → (listed candidateWords (candidateOf b r ∷ []) ≡ b ∷ r .order ∷ []) × (listed candidateNumbers (candidateOf b r ∷ []) ≡ r .place .x ∷ r .answer .size .width ∷ r .place .y ∷ [])
 unfolding listed candidateOf
 one-record b r = (refl, refl)
 
@@ -56,9 +56,9 @@ out-gathered ws rs ms b pairs triples pairs′ triples′ z e p (node r ks) h ro
     let f = facts ws rs ms r ks h in
     let bits = bits-of ws rs ms r ks h in
     let o : getD ms 0 0 ≡ r .order = ap (λ (z : List ℕ). getD z 0 0) (f .marks-head) in
-    let x : getD rs 0 nan ≡ r .x = ap (λ (z : List Float). getD z 0 nan) (f .rows-head) in
-    let y : getD rs 1 nan ≡ r .y = ap (λ (z : List Float). getD z 1 nan) (f .rows-head) in
-    let w : getD rs 2 nan ≡ r .w = ap (λ (z : List Float). getD z 2 nan) (f .rows-head) in
+    let x : getD rs 0 nan ≡ r .place .x = ap (λ (z : List Float). getD z 0 nan) (f .rows-head) in
+    let y : getD rs 1 nan ≡ r .place .y = ap (λ (z : List Float). getD z 1 nan) (f .rows-head) in
+    let w : getD rs 2 nan ≡ r .answer .size .width = ap (λ (z : List Float). getD z 2 nan) (f .rows-head) in
     let l : candidatesT b (node r ks) ≡ candidateOf b r ∷ [] = candT-node b r ks ∙ at-out b r _ (ap (λ (n : ℕ). flagAt n 0) (sym bits) ∙ z) (ap (λ (n : ℕ). flagAt n 2) (sym bits) ∙ e) in
     let one = one-record b r in
     rw l (record {
@@ -74,11 +74,11 @@ none-gathered ws rs ms b pairs triples z e (node r ks) h room =
     rw l (record { count = refl; pairs-are = sym (ap (λ (v : List ℕ). v ++ pairs) (listed-nil candidateWords)); triples-are = sym (ap (λ (v : List Float). v ++ triples) (listed-nil candidateNumbers)) })
 
 -- moving by a row's place
-moved-is : (r : Row) (c : Candidate) → movedBy r c ≡ shifted (r .x) (r .y) c
+moved-is : (r : Row) (c : Candidate) → movedBy r c ≡ shifted (r .place .x) (r .place .y) c
 unfolding movedBy shifted
 moved-is r c = refl
 
-map-moved : (r : Row) (l : List Candidate) → map (movedBy r) l ≡ map (shifted (r .x) (r .y)) l
+map-moved : (r : Row) (l : List Candidate) → map (movedBy r) l ≡ map (shifted (r .place .x) (r .place .y)) l
 map-moved r [] = refl
 map-moved r (c ∷ l) = rw (moved-is r c, map-moved r l)
 
@@ -114,19 +114,19 @@ pub laid-gathered : (ws : List ℕ) (rs : List Float) (ms : List ℕ) (b n : ℕ
 laid-gathered ws rs ms b n pairs triples pairs1 triples1 triples2 z g mv (node r ks) h room =
     let f = facts ws rs ms r ks h in
     let bits = bits-of ws rs ms r ks h in
-    let x : getD rs 0 nan ≡ r .x = ap (λ (v : List Float). getD v 0 nan) (f .rows-head) in
-    let y : getD rs 1 nan ≡ r .y = ap (λ (v : List Float). getD v 1 nan) (f .rows-head) in
+    let x : getD rs 0 nan ≡ r .place .x = ap (λ (v : List Float). getD v 0 nan) (f .rows-head) in
+    let y : getD rs 1 nan ≡ r .place .y = ap (λ (v : List Float). getD v 1 nan) (f .rows-head) in
     let k = candidatesF (b + 1) ks in
     let p = g ks (f .kids) (kids-room ws rs ms b pairs triples r ks h z room) in
-    let l : candidatesT b (node r ks) ≡ map (shifted (r .x) (r .y)) k =
-    candT-node b r ks ∙ at-laid b r _ (ap (λ (i : ℕ). flagAt i 0) (sym bits) ∙ z) ∙ map-moved r (candidatesF (suc b) ks) ∙ ap (λ (i : ℕ). map (shifted (r .x) (r .y)) (candidatesF i ks)) (sym (add-one b)) in
+    let l : candidatesT b (node r ks) ≡ map (shifted (r .place .x) (r .place .y)) k =
+    candT-node b r ks ∙ at-laid b r _ (ap (λ (i : ℕ). flagAt i 0) (sym bits) ∙ z) ∙ map-moved r (candidatesF (suc b) ks) ∙ ap (λ (i : ℕ). map (shifted (r .place .x) (r .place .y)) (candidatesF i ks)) (sym (add-one b)) in
     let m = mv k (drop (3 * length k) triples) (p .triples-are) (sym (p .count)) in
-    let c : length (map (shifted (r .x) (r .y)) k) ≡ length k = length-map k (shifted (r .x) (r .y)) in
-    let m2 : triples2 ≡ listed candidateNumbers (map (shifted (r .x) (r .y)) k) ++ drop (3 * length k) triples = rw (x, y) at m in
+    let c : length (map (shifted (r .place .x) (r .place .y)) k) ≡ length k = length-map k (shifted (r .place .x) (r .place .y)) in
+    let m2 : triples2 ≡ listed candidateNumbers (map (shifted (r .place .x) (r .place .y)) k) ++ drop (3 * length k) triples = rw (x, y) at m in
     rw l (record {
       count = p .count ∙ sym c;
-      pairs-are = p .pairs-are ∙ ap (λ (v : List ℕ). v ++ drop (2 * length k) pairs) (sym (words-stay (r .x) (r .y) k)) ∙ ap (λ (i : ℕ). listed candidateWords (map (shifted (r .x) (r .y)) k) ++ drop (2 * i) pairs) (sym c);
-      triples-are = m2 ∙ ap (λ (i : ℕ). listed candidateNumbers (map (shifted (r .x) (r .y)) k) ++ drop (3 * i) triples) (sym c);
+      pairs-are = p .pairs-are ∙ ap (λ (v : List ℕ). v ++ drop (2 * length k) pairs) (sym (words-stay (r .place .x) (r .place .y) k)) ∙ ap (λ (i : ℕ). listed candidateWords (map (shifted (r .place .x) (r .place .y)) k) ++ drop (2 * i) pairs) (sym c);
+      triples-are = m2 ∙ ap (λ (i : ℕ). listed candidateNumbers (map (shifted (r .place .x) (r .place .y)) k) ++ drop (3 * i) triples) (sym c);
     })
 
 -- the lengths of a tree's tables

@@ -4,8 +4,8 @@ ghost use Prim.Native.Nat.{_*_, _≤_};
 ghost use lib.ListN.{length};
 ghost use Rattle.candidates.specs.Gathered.{AllMoved, GivenT, GivenF, GathersT, GathersF, RoomOne, RecordPut};
 use geometry::Line;
-use margin::NodeId;
-use margin::Order;
+use tree::NodeId;
+use tree::Order;
 
 // Adds a place to the first n records: x to start and end, y to line.
 fn move_records(triples: &mut [f32], n: usize, x: f32, y: f32)

@@ -9,7 +9,7 @@ use Rattle.geometry.specs.Geometry.{zeroF}
 use Rattle.margin.specs.Margin.{noMargins}
 use Rattle.tree.specs.Tree.{Tree, Forest, node, more, countT, rootT, onRoot}
 use Rattle.tree.proofs.Laws.{length-flatT, count-mapT}
-use Rattle.steps.specs.Width.{flowOf}
+use Rattle.style.specs.Flow.{flowOf}
 use Rattle.steps.specs.Row.{Row, rowNumbers, rowWords, isLaid, bare, hiddenRow, asideRow, laidRow}
 use Rattle.steps.specs.Page.{Site, Cell, Node}
 use Rattle.steps.specs.Probe.{widthPass}
@@ -17,7 +17,7 @@ use Rattle.steps.specs.Kept.{zerosT}
 use Rattle.steps.specs.Layout.{Stacked, layT, layF, relaid, fresh, skip}
 use Rattle.steps.specs.Stack.{pastHidden}
 use Rattle.steps.specs.Results.{rowsOut, marksOut}
-use Rattle.steps.specs.declared.Flow.the-variants.{Gone}
+use Rattle.style.specs.declared.Flow.the-variants.{Gone}
 use Rattle.steps.specs.declared.LayoutInput.{LayoutInput}
 use Rattle.steps.specs.declared.Frame.{Frame}
 use Rattle.steps.specs.declared.Cursor.{Cursor}
@@ -41,14 +41,14 @@ two-words t q = length-flatT (λ _ (r : Row). rowWords r) 2 (λ _ _. refl) (fres
 -- the root is laid, at 0, 0
 pub record AtOrigin (r : Row) : Type 0 where
   pub laid : isLaid r ≡ true
-  pub x-is : r .x ≡ zeroF
-  pub y-is : r .y ≡ zeroF
+  pub x-is : r .place .x ≡ zeroF
+  pub y-is : r .place .y ≡ zeroF
 
 origin-T : (t : Tree Node) (q : LayoutInput) (found : Float) → AtOrigin (rootT (layT t q found .rows))
 unfolding laidRow
 origin-T (node n ks) q found =
     let e = root-row n ks q found in
-    record { laid = root-laid (node n ks) q found; x-is = ap (λ (r : Row). r .x) e; y-is = ap (λ (r : Row). r .y) e }
+    record { laid = root-laid (node n ks) q found; x-is = ap (λ (r : Row). r .place .x) e; y-is = ap (λ (r : Row). r .place .y) e }
 
 pub root-at-origin : (t : Tree Cell) (q : LayoutInput) → AtOrigin (rootT (relaid t q .rows))
 unfolding relaid

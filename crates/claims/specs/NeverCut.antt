@@ -35,7 +35,7 @@ use Rattle.page.proofs.HeadFits.{page-fits}
 use Rattle.print.specs.Pen.{Pen, pen, putAll}
 use Rattle.print.proofs.PenLaws.{all-put}
 use Rattle.print.specs.Sizes.{page-short, bad-short}
-use Rattle.pages.specs.Output.{replyText, laidText, fileText, outputOf, Shown}
+use Rattle.pages.specs.Output.{replyText, laidPageText, fileText, outputText, Shown}
 
 -- tests that pass leave room for the records that are needed
 room-left : (ws : List ℕ) (xs rs : List Float) (ms cw : List ℕ) (cx : List Float) (q : LayoutInput) → layoutTested ws xs rs ms cw cx q ≡ Pass → needed (pageOf ws xs []) ≤ recordsIn cw cx
@@ -62,8 +62,8 @@ count-few ws xs rs ms cw cx q e =
     (λ p. laid-few (lowest (badRow (rowsOut (fresh (pageOf ws xs []) q .rows))) (nodesIn ws)) (fresh (pageOf ws xs []) q .rows) (recordsIn cw cx) rs ms cw cx (omega (arith, few-fresh ws xs q, room-left ws xs rs ms cw cx q p)))
     e
 
-laid-fits : (h : Head) (ws : List ℕ) (xs : List Float) → h .count ≤ 512 → length (laidText h ws xs) ≤ 131072
-unfolding laidText replyText
+laid-fits : (h : Head) (ws : List ℕ) (xs : List Float) → h .count ≤ 512 → length (laidPageText h ws xs) ≤ 131072
+unfolding laidPageText replyText
 laid-fits h ws xs few =
     let n = h .count in
     let cw : List ℕ = replicate (2 * n) 0 in
@@ -85,12 +85,12 @@ unfolding nodeLimit
 512-nodes s h e = omega (arith, page-fits 2048 13824 s h e)
 
 -- whatever is read, the output has at most 131,072 bytes
-pub output-fits : (s : List ℕ) → length (outputOf s) ≤ 131072
-unfolding outputOf
+pub output-fits : (s : List ℕ) → length (outputText s) ≤ 131072
+unfolding outputText
 output-fits s = file-fits (pageFile 2048 13824 s .file) (pageFile 2048 13824 s .words) (pageFile 2048 13824 s .numbers) (512-nodes s)
 
 -- what is shown in such a buffer is the whole output, with the rest as it was
-pub never-cut : (s out out′ : List ℕ) (r : ℕ) → length out ≡ 131072 → Shown (outputOf s) out out′ r → (r ≡ length (outputOf s)) × (out′ ≡ outputOf s ++ drop (length (outputOf s)) out)
+pub never-cut : (s out out′ : List ℕ) (r : ℕ) → length out ≡ 131072 → Shown (outputText s) out out′ r → (r ≡ length (outputText s)) × (out′ ≡ outputText s ++ drop (length (outputText s)) out)
 never-cut s out out′ r l h =
-    let e = h .written ∙ all-put (outputOf s) out (omega (arith, output-fits s)) in
+    let e = h .written ∙ all-put (outputText s) out (omega (arith, output-fits s)) in
     (ap (λ (p : Pen). p .at) e, ap (λ (p : Pen). p .bytes) e)

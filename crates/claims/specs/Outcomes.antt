@@ -20,7 +20,7 @@ use Rattle.steps.specs.declared.Found.the-variants.{Nowhere, At}
 use Rattle.steps.specs.declared.LayoutInput.{LayoutInput}
 use Rattle.steps.specs.declared.Tested.{Tested}
 use Rattle.steps.specs.declared.Tested.the-variants.{Pass, Refuse}
-use Rattle.margin.specs.declared.NodeId.{NodeId}
+use Rattle.tree.specs.declared.NodeId.{NodeId}
 use Rattle.layout.specs.Public.{Replied}
 use Rattle.claims.specs.AtExit.{Alike, one-reply}
 

@@ -16,14 +16,14 @@ use Rattle.style.specs.declared.Style.{Style}
 use Rattle.tree.specs.Tree.{Tree, Forest, node, countT, countF, flatT, flatF, mapT, mapF, rootT, onRoot}
 use Rattle.tree.proofs.Laws.{countT-node, flatT-node, mapT-node, onRoot-node}
 use Rattle.tree.proofs.Lists.{tail-part, tail-put}
-use Rattle.steps.specs.Width.{flowOf}
-use Rattle.steps.specs.Stack.{itemOf, stepJ, placeOf, stepped, lineOf, edgesOf, pastAside, pastHidden}
+use Rattle.style.specs.Flow.{flowOf}
+use Rattle.steps.specs.Stack.{itemOf, questionTo, placeOf, stepped, lineOf, edgesOf, pastAside, pastHidden}
 use Rattle.steps.specs.Row.{Row, rowNumbers, rowWords, hiddenRow, asideRow, laidRow, putAt, noted, probeOf, outputIn}
 use Rattle.steps.specs.Page.{Cell, staying, anyT}
 use Rattle.steps.specs.Kept.{Laid, finalStands, editedNode, kept, keep, keptRow, zerosT, zerosF, fixF}
 use Rattle.steps.specs.Layout.{askT}
-use Rattle.steps.specs.declared.Flow.{Flow}
-use Rattle.steps.specs.declared.Flow.the-variants.{Gone, Out, In}
+use Rattle.style.specs.declared.Flow.{Flow}
+use Rattle.style.specs.declared.Flow.the-variants.{Gone, Out, In}
 use Rattle.steps.specs.declared.LayoutInput.{LayoutInput}
 use Rattle.steps.specs.declared.LayoutOutput.{LayoutOutput}
 use Rattle.steps.specs.declared.Frame.{Frame}
@@ -128,19 +128,19 @@ module _ (ws : List ℕ) (xs rs : List Float) (ms es : List ℕ) (b : ℕ) (f : 
       let p = h r (flatF newNumbers us) (flatF newWords us) (a .0 ∙ flatT-node newNumbers r us) (a .1 ∙ flatT-node newWords r us) in
       rw onRoot-node (p .0 ∙ sym (flatT-node newNumbers (g r) us), p .1 ∙ sym (flatT-node newWords (g r) us))
 
-  pub in-placed : (end : Cursor) (q : LayoutInput) (o : LayoutOutput) (i : BlockItem) (p : Point) (rs1 rs′ : List Float) (ms1 ms′ : List ℕ) → flow ≡ In → q ≡ stepJ f s → AskedT ws xs rs ms es b q o rs1 ms1 → i ≡ itemOf f s
+  pub in-placed : (end : Cursor) (q : LayoutInput) (o : LayoutOutput) (i : BlockItem) (p : Point) (rs1 rs′ : List Float) (ms1 ms′ : List ℕ) → flow ≡ In → q ≡ questionTo f s → AskedT ws xs rs ms es b q o rs1 ms1 → i ≡ itemOf f s
       → p ≡ placeOf f c i o → Becomes rs1 ms1 rs′ ms′ (putAt p (c .shown .0)) → end ≡ stepped f c i o → PlacedT ws xs rs ms es b f c end rs′ ms′
   unfolding placedBy placedIn
   in-placed end q o i p rs1 rs′ ms1 ms′ e hq ha hi hp hb he (node l ks) h =
       let t = mapT staying (node l ks) in
       let st = style-of l ks h in
       let a = ha (node l ks) h in
-      let qq : q ≡ stepJ f (rootT t .site .style) = hq ∙ ap (stepJ f) st in
-      let oo : o ≡ askT t (stepJ f (rootT t .site .style)) .out = a .0 ∙ ap (λ (z : LayoutInput). askT t z .out) qq in
+      let qq : q ≡ questionTo f (rootT t .site .style) = hq ∙ ap (questionTo f) st in
+      let oo : o ≡ askT t (questionTo f (rootT t .site .style)) .out = a .0 ∙ ap (λ (z : LayoutInput). askT t z .out) qq in
       let ii : i ≡ itemOf f (rootT t .site .style) = hi ∙ ap (itemOf f) st in
-      let pp : p ≡ placeOf f c (itemOf f (rootT t .site .style)) (askT t (stepJ f (rootT t .site .style)) .out) = hp ∙ rw (ii, oo) refl in
+      let pp : p ≡ placeOf f c (itemOf f (rootT t .site .style)) (askT t (questionTo f (rootT t .site .style)) .out) = hp ∙ rw (ii, oo) refl in
       let z = root-put (putAt p (c .shown .0)) rs1 rs′ ms1 ms′ (askT t q .rows) (a .1) hb in
-      let y : onRoot (putAt p (c .shown .0)) (askT t q .rows) ≡ placedIn f c t (askT t (stepJ f (rootT t .site .style))) .rows = rw (pp, qq) refl in
+      let y : onRoot (putAt p (c .shown .0)) (askT t q .rows) ≡ placedIn f c t (askT t (questionTo f (rootT t .site .style))) .rows = rw (pp, qq) refl in
       rw (placed-of l ks In h e) (he ∙ rw (ii, oo) refl, (z .0 ∙ ap (flatT newNumbers) y, z .1 ∙ ap (flatT newWords) y))
 
 -- a leaf's row, and what is cleared after it

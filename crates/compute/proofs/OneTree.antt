@@ -16,10 +16,10 @@ use Rattle.tree.specs.Tree.{Tree, Forest, node, none, more, countT, countF, fla
 use Rattle.tree.specs.Table.{from}
 use Rattle.tree.proofs.Laws.{countT-node, flatT-node, flatF-more, mapT-node, onRoot-node}
 use Rattle.tree.proofs.Lists.{tail-part, tail-put}
-use Rattle.steps.specs.Width.{isLeaf}
+use Rattle.style.specs.Flow.{isLeaf}
 use Rattle.steps.specs.Edges.{frameOf}
 use Rattle.steps.specs.Stack.{startOf}
-use Rattle.steps.specs.Height.{finished, leafOutput}
+use Rattle.steps.specs.Through.{finished, leafOutput}
 use Rattle.steps.specs.Row.{Row, rowNumbers, rowWords, laidRow, probeOf, lowered}
 use Rattle.steps.specs.Page.{Cell, Node, staying}
 use Rattle.steps.specs.Kept.{zerosF}
@@ -107,12 +107,12 @@ marks-align None ts = refl
 marks-align (Some d) ts = marks-lower d ts
 
 -- a block: what the stack left, the node's own row, and what step M made of the rest
-block-out : (l : Node) (q : LayoutInput) (f : Frame) (s : Stacked) → blockLaid l q f s .out ≡ finished (l .site .style) q f (s .end) .output
+block-out : (l : Node) (q : LayoutInput) (f : Frame) (s : Stacked) → blockLaid l q f s .out ≡ finished (l .site .style) q f (s .last) .output
 unfolding blockLaid
 block-out l q f s = refl
 
 block-rows : (l : Node) (q : LayoutInput) (f : Frame) (s : Stacked)
-    → blockLaid l q f s .rows ≡ node (laidRow q (finished (l .site .style) q f (s .end) .output) (l .probe)) (alignF (finished (l .site .style) q f (s .end) .shift) (s .rows))
+    → blockLaid l q f s .rows ≡ node (laidRow q (finished (l .site .style) q f (s .last) .output) (l .probe)) (alignF (finished (l .site .style) q f (s .last) .shift) (s .rows))
 unfolding blockLaid
 block-rows l q f s = refl
 
@@ -124,7 +124,7 @@ module _ (ws : List ℕ) (xs rs : List Float) (ms es : List ℕ) (b : ℕ) (q : 
   where
     record Inside (l : Cell) (ks : Forest Cell) : Type 0 where
       style-is : s ≡ staying l .site .style
-      end-is : end ≡ layF (mapF staying ks) f (startOf f) .end
+      end-is : end ≡ layF (mapF staying ks) f (startOf f) .last
       rows2-is : rs2 ≡ rowNumbers (laidRow q (d .output) (probeOf (l .old))) ++ nr
       marks2-is : ms2 ≡ rowWords (laidRow q (d .output) (probeOf (l .old))) ++ nm
       nr-is : nr ≡ flatF newNumbers (layF (mapF staying ks) f (startOf f) .rows)
@@ -173,7 +173,7 @@ module _ (ws : List ℕ) (xs rs : List Float) (ms es : List ℕ) (b : ℕ) (q : 
         let ff : f ≡ frameOf (staying l .site .style) q found = hf ∙ ap (λ (z : Style). frameOf z q found) (i .style-is) in
         let lay : layT (mapT staying (node l ks)) q found ≡ blockLaid (staying l) q f (layF (mapF staying ks) f (startOf f)) =
         ap (λ t. layT t q found) (stay-node l ks) ∙ layT-block (staying l) (mapF staying ks) q found lf ∙ ap (λ (z : Frame). blockLaid (staying l) q z (layF (mapF staying ks) z (startOf z))) (sym ff) in
-        let dd : d ≡ finished (staying l .site .style) q f (layF (mapF staying ks) f (startOf f) .end) = hd ∙ rw (i .style-is, i .end-is) refl in
+        let dd : d ≡ finished (staying l .site .style) q f (layF (mapF staying ks) f (startOf f) .last) = hd ∙ rw (i .style-is, i .end-is) refl in
         let rr : layT (mapT staying (node l ks)) q found .rows ≡ node (laidRow q (d .output) (probeOf (l .old))) (alignF (d .shift) (layF (mapF staying ks) f (startOf f) .rows)) =
         ap (λ z. z .rows) lay ∙ block-rows (staying l) q f (layF (mapF staying ks) f (startOf f)) ∙ rw (← dd, stay-probe l) refl in
         let h16 : take 16 rs2 ≡ rowNumbers (laidRow q (d .output) (probeOf (l .old))) = ap (take 16) (i .rows2-is) in (

@@ -7,13 +7,13 @@ use lib.ListN.{length}
 use lib.Ieee.{Float}
 use Rattle.tree.specs.Tree.{Tree, Forest, countT, countF, flatT, flatF, mapT, mapF, rootT}
 use Rattle.tree.proofs.Laws.{length-flatT, length-flatF, flat-mapT, flat-mapF}
-use Rattle.steps.specs.Width.{flowOf}
-use Rattle.steps.specs.Stack.{stepJ}
+use Rattle.style.specs.Flow.{flowOf}
+use Rattle.steps.specs.Stack.{questionTo}
 use Rattle.steps.specs.Page.{Node}
 use Rattle.steps.specs.Kept.{zerosT}
 use Rattle.steps.specs.Layout.{layT, layF, askT}
-use Rattle.steps.specs.declared.Flow.{Flow}
-use Rattle.steps.specs.declared.Flow.the-variants.{Gone, Out, In}
+use Rattle.style.specs.declared.Flow.{Flow}
+use Rattle.style.specs.declared.Flow.the-variants.{Gone, Out, In}
 use Rattle.steps.specs.declared.LayoutInput.{LayoutInput}
 use Rattle.steps.specs.declared.Frame.{Frame}
 use Rattle.steps.specs.declared.Cursor.{Cursor}
@@ -63,7 +63,7 @@ shape-by : (w : Flow) (f : Frame) (c : Cursor) (t : Tree Node) → mapT mute (pl
 unfolding placedBy placedIn
 shape-by Gone f c t = shape-on _ (zerosT t) ∙ shape-zeros-T t
 shape-by Out f c t = shape-on _ (zerosT t) ∙ shape-zeros-T t
-shape-by In f c t = shape-on _ (askT t (stepJ f (rootT t .site .style)) .rows) ∙ shape-ask t (stepJ f (rootT t .site .style))
+shape-by In f c t = shape-on _ (askT t (questionTo f (rootT t .site .style)) .rows) ∙ shape-ask t (questionTo f (rootT t .site .style))
 
 pub sizes-placed : (f : Frame) (c : Cursor) (t : Tree Node) → sizesT (placedT f c t .rows) ≡ sizesT t
 unfolding placedT

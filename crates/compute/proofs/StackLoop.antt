@@ -27,7 +27,7 @@ pub record Rest (ws : List ℕ) (xs rs : List Float) (ms es : List ℕ) (b : ℕ
   pub p : List ℕ
   pub here : Left ws xs rs ms es b a left q p
   pub shallow : (d : ℕ) → depthF ts ≤ d → depthF left ≤ d
-  pub end-same : layF (mapF staying ts) f (startOf f) .end ≡ layF (mapF staying left) f c .end
+  pub end-same : layF (mapF staying ts) f (startOf f) .last ≡ layF (mapF staying left) f c .last
   pub rows-done : flatF newNumbers (layF (mapF staying ts) f (startOf f) .rows) ≡ q ++ flatF newNumbers (layF (mapF staying left) f c .rows)
   pub marks-done : flatF newWords (layF (mapF staying ts) f (startOf f) .rows) ≡ p ++ flatF newWords (layF (mapF staying left) f c .rows)
 
@@ -53,13 +53,13 @@ pub record Turn (ws : List ℕ) (xs rs : List Float) (ms es : List ℕ) (b : ℕ
   pub tabled : TabledT (take (4 * e - 4 * a) (drop (4 * a) ws)) xs (take (16 * e - 16 * a) (drop (16 * a) rs)) (take (2 * e - 2 * a) (drop (2 * a) ms)) es (b + a) tree
   pub shallow : (d : ℕ) → depthF ts ≤ d → depthT tree ≤ d
   pub count-is : a + countT tree ≡ e
-  pub counted : (c′ : Cursor) → c′ ≡ placedT f c (mapT staying tree) .end → (c′ .count ≡ c .count + 1) × (c′ .shown .0 ≤ c .shown .0 + 1)
-  pub next : (c′ : Cursor) (nr : List Float) (nm : List ℕ) → (c′ ≡ placedT f c (mapT staying tree) .end) × AreT nr nm (placedT f c (mapT staying tree) .rows)
+  pub counted : (c′ : Cursor) → c′ ≡ placedT f c (mapT staying tree) .last → (c′ .count ≡ c .count + 1) × (c′ .shown .0 ≤ c .shown .0 + 1)
+  pub next : (c′ : Cursor) (nr : List Float) (nm : List ℕ) → (c′ ≡ placedT f c (mapT staying tree) .last) × AreT nr nm (placedT f c (mapT staying tree) .rows)
       → Rest ws xs (putMid (16 * a) (16 * e - 16 * a) rs nr) (putMid (2 * a) (2 * e - 2 * a) ms nm) es b f ts c′ e
 
 module _ (ws : List ℕ) (xs rs : List Float) (ms es : List ℕ) (b : ℕ) (f : Frame) (ts : Forest Cell) (c : Cursor) (a e : ℕ) (ed : e ≡ a + wordAt ws a 0) where
   turn-of : (left : Forest Cell) (q : List Float) (p : List ℕ) → Left ws xs rs ms es b a left q p → ((d : ℕ) → depthF ts ≤ d → depthF left ≤ d)
-      → layF (mapF staying ts) f (startOf f) .end ≡ layF (mapF staying left) f c .end
+      → layF (mapF staying ts) f (startOf f) .last ≡ layF (mapF staying left) f c .last
       → flatF newNumbers (layF (mapF staying ts) f (startOf f) .rows) ≡ q ++ flatF newNumbers (layF (mapF staying left) f c .rows)
       → flatF newWords (layF (mapF staying ts) f (startOf f) .rows) ≡ p ++ flatF newWords (layF (mapF staying left) f c .rows) → 4 * a < length ws → Turn ws xs rs ms es b f ts c a e
   turn-of none q p h sh se dr dm lt = absurd (left-some ws xs rs ms es b a q p h lt)
@@ -88,7 +88,7 @@ module _ (ws : List ℕ) (xs rs : List Float) (ms es : List ℕ) (b : ℕ) (f : 
               p = p ++ nm;
               here = k .next nr nm (ap length nr2 ∙ length-flatT newNumbers 16 (λ _ _. refl) (placedT f c u .rows) ∙ ap (λ (i : ℕ). 16 * i) n) (ap length nm2 ∙ length-flatT newWords 2 (λ _ _. refl) (placedT f c u .rows) ∙ ap (λ (i : ℕ). 2 * i) n);
               shallow = λ d hd. let z = simp depthF-more at (sh d hd) in omega arith;
-              end-same = se ∙ ap (λ s. s .end) lay ∙ ap (λ (z : Cursor). layF (mapF staying us) f z .end) (sym (hh .0));
+              end-same = se ∙ ap (λ s. s .last) lay ∙ ap (λ (z : Cursor). layF (mapF staying us) f z .last) (sym (hh .0));
               rows-done = dr ∙ ap (λ s. q ++ flatF newNumbers (s .rows)) lay ∙ rw (flatF-more, ← nr2, ← hh .0) (sym (append-assoc q nr _));
               marks-done = dm ∙ ap (λ s. p ++ flatF newWords (s .rows)) lay ∙ rw (flatF-more, ← nm2, ← hh .0) (sym (append-assoc p nm _));
             };
@@ -98,13 +98,13 @@ module _ (ws : List ℕ) (xs rs : List Float) (ms es : List ℕ) (b : ℕ) (f : 
   turn s = turn-of (s .left) (s .q) (s .p) (s .here) (s .shallow) (s .end-same) (s .rows-done) (s .marks-done)
 
 end-of : (ws : List ℕ) (xs rs : List Float) (ms es : List ℕ) (b : ℕ) (f : Frame) (ts : Forest Cell) (c : Cursor) (a : ℕ) (left : Forest Cell) (q : List Float) (p : List ℕ) → Left ws xs rs ms es b a left q p
-    → layF (mapF staying ts) f (startOf f) .end ≡ layF (mapF staying left) f c .end
+    → layF (mapF staying ts) f (startOf f) .last ≡ layF (mapF staying left) f c .last
     → flatF newNumbers (layF (mapF staying ts) f (startOf f) .rows) ≡ q ++ flatF newNumbers (layF (mapF staying left) f c .rows)
     → flatF newWords (layF (mapF staying ts) f (startOf f) .rows) ≡ p ++ flatF newWords (layF (mapF staying left) f c .rows) → length ws ≤ 4 * a
-    → (c ≡ layF (mapF staying ts) f (startOf f) .end) × AreF rs ms (layF (mapF staying ts) f (startOf f) .rows)
+    → (c ≡ layF (mapF staying ts) f (startOf f) .last) × AreF rs ms (layF (mapF staying ts) f (startOf f) .rows)
 end-of ws xs rs ms es b f ts c a none q p h se dr dm le =
-    let lay : layF (mapF staying none) f c ≡ record { end = c; rows = none } = ap (λ z. layF z f c) (mapF-none staying) ∙ layF-none f c in (
-      sym (se ∙ ap (λ s. s .end) lay),
+    let lay : layF (mapF staying none) f c ≡ record { last = c; rows = none } = ap (λ z. layF z f c) (mapF-none staying) ∙ layF-none f c in (
+      sym (se ∙ ap (λ s. s .last) lay),
       (
         h .rows-split ∙ ap (λ (z : List Float). q ++ z) (flatF-none oldNumbers ∙ sym (ap (λ s. flatF newNumbers (s .rows)) lay ∙ flatF-none newNumbers)) ∙ sym dr,
         h .marks-split ∙ ap (λ (z : List ℕ). p ++ z) (flatF-none oldWords ∙ sym (ap (λ s. flatF newWords (s .rows)) lay ∙ flatF-none newWords)) ∙ sym dm,
@@ -113,7 +113,7 @@ end-of ws xs rs ms es b f ts c a none q p h se dr dm le =
 end-of ws xs rs ms es b f ts c a (more t us) q p h se dr dm le = absurd (left-none ws xs rs ms es b a t us q p h le)
 
 pub end : (ws : List ℕ) (xs rs : List Float) (ms es : List ℕ) (b : ℕ) (f : Frame) (ts : Forest Cell) (c : Cursor) (a : ℕ) → Rest ws xs rs ms es b f ts c a → length ws ≤ 4 * a
-    → (c ≡ layF (mapF staying ts) f (startOf f) .end) × AreF rs ms (layF (mapF staying ts) f (startOf f) .rows)
+    → (c ≡ layF (mapF staying ts) f (startOf f) .last) × AreF rs ms (layF (mapF staying ts) f (startOf f) .rows)
 end ws xs rs ms es b f ts c a s = end-of ws xs rs ms es b f ts c a (s .left) (s .q) (s .p) (s .here) (s .end-same) (s .rows-done) (s .marks-done)
 
 -- at the start nothing is counted

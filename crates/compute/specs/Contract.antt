@@ -8,14 +8,14 @@ use lib.Ieee.{Float}
 use Rattle.geometry.specs.Geometry.{zeroF}
 use Rattle.util.specs.declared.OptionF32.{OptionF32}
 use Rattle.tree.specs.Tree.{Tree, Forest, flatT, flatF, mapT, mapF, rootT, onRoot}
-use Rattle.steps.specs.Width.{flowOf}
-use Rattle.steps.specs.Stack.{startOf, itemOf, stepJ, placeOf, stepped, lineOf, edgesOf, pastAside, pastHidden}
+use Rattle.style.specs.Flow.{flowOf}
+use Rattle.steps.specs.Stack.{startOf, itemOf, questionTo, placeOf, stepped, lineOf, edgesOf, pastAside, pastHidden}
 use Rattle.steps.specs.Row.{Row, rowNumbers, rowWords, hiddenRow, asideRow, laidRow, probeOf, putAt}
 use Rattle.steps.specs.Page.{Cell, Node, staying}
 use Rattle.steps.specs.Kept.{Laid, finalStands, zerosT}
 use Rattle.steps.specs.Layout.{alignF, layT, layF, askT}
-use Rattle.steps.specs.declared.Flow.{Flow}
-use Rattle.steps.specs.declared.Flow.the-variants.{Gone, Out, In}
+use Rattle.style.specs.declared.Flow.{Flow}
+use Rattle.style.specs.declared.Flow.the-variants.{Gone, Out, In}
 use Rattle.steps.specs.declared.LayoutInput.{LayoutInput}
 use Rattle.steps.specs.declared.LayoutOutput.{LayoutOutput}
 use Rattle.steps.specs.declared.Frame.{Frame}
@@ -27,21 +27,21 @@ use Rattle.rows.specs.Edited.{touched}
 
 -- one child of the stack: the cursor past it, and its rows
 pub record Placed : Type 0 where
-  pub end : Cursor
+  pub last : Cursor
   pub rows : Tree Row
 
 unfoldable pub placedIn : Frame → Cursor → Tree Node → Laid → Placed
 placedIn f c t a =
     record {
-      end = stepped f c (itemOf f (rootT t .site .style)) (a .out);
+      last = stepped f c (itemOf f (rootT t .site .style)) (a .out);
       rows = onRoot (putAt (placeOf f c (itemOf f (rootT t .site .style)) (a .out)) (c .shown .0)) (a .rows);
     }
 
 unfoldable pub placedBy : Flow → Frame → Cursor → Tree Node → Placed
-placedBy Gone f c t = record { end = pastHidden c; rows = onRoot (λ _. hiddenRow (c .count)) (zerosT t) }
+placedBy Gone f c t = record { last = pastHidden c; rows = onRoot (λ _. hiddenRow (c .count)) (zerosT t) }
 placedBy Out f c t =
-    record { end = pastAside c; rows = onRoot (λ _. asideRow (edgesOf f .start) (lineOf f c) (edgesOf f .end) (c .shown .0)) (zerosT t) }
-placedBy In f c t = placedIn f c t (askT t (stepJ f (rootT t .site .style)))
+    record { last = pastAside c; rows = onRoot (λ _. asideRow (edgesOf f .start) (lineOf f c) (edgesOf f .end) (c .shown .0)) (zerosT t) }
+placedBy In f c t = placedIn f c t (askT t (questionTo f (rootT t .site .style)))
 
 unfoldable pub placedT : Frame → Cursor → Tree Node → Placed
 placedT f c t = placedBy (flowOf (rootT t .site .style)) f c t
@@ -63,11 +63,11 @@ AskedT ws xs rs ms es b q out rs′ ms′ =
 
 abbrev pub PlacedT : List ℕ → List Float → List Float → List ℕ → List ℕ → ℕ → Frame → Cursor → Cursor → List Float → List ℕ → Type 0
 PlacedT ws xs rs ms es b f c end rs′ ms′ =
-    (t : Tree Cell) → TabledT ws xs rs ms es b t → (end ≡ placedT f c (mapT staying t) .end) × AreT rs′ ms′ (placedT f c (mapT staying t) .rows)
+    (t : Tree Cell) → TabledT ws xs rs ms es b t → (end ≡ placedT f c (mapT staying t) .last) × AreT rs′ ms′ (placedT f c (mapT staying t) .rows)
 
 abbrev pub LaidF : List ℕ → List Float → List Float → List ℕ → List ℕ → ℕ → Frame → Cursor → List Float → List ℕ → Type 0
 LaidF ws xs rs ms es b f end rs′ ms′ =
-    (ts : Forest Cell) → TabledF ws xs rs ms es b ts → (end ≡ layF (mapF staying ts) f (startOf f) .end) × AreF rs′ ms′ (layF (mapF staying ts) f (startOf f) .rows)
+    (ts : Forest Cell) → TabledF ws xs rs ms es b ts → (end ≡ layF (mapF staying ts) f (startOf f) .last) × AreF rs′ ms′ (layF (mapF staying ts) f (startOf f) .rows)
 
 -- step M on every forest of rows
 abbrev pub Aligned : List ℕ → List Float → List ℕ → OptionF32 → List Float → Type 0

@@ -1,14 +1,14 @@
 // The final pass, in place: containers and stacks call each other (the crate's src/compute/block.rs).
 ghost use mathlib.Core.Path.{_≡_};
-ghost use Rattle.rows.specs.Store.{Room};
+ghost use Rattle.rows.specs.Store.{OneRow};
 ghost use Rattle.steps.specs.Stack.{Counts};
 ghost use Rattle.walks.specs.Tables.{IsRows};
 ghost use Rattle.compute.specs.Contract.{IsTree, IsForest, LaidT, AskedT, PlacedT, LaidF, Aligned, LeafPut, Stands};
 use steps::Cursor;
-use steps::Flow;
 use steps::Frame;
 use steps::LayoutInput;
 use steps::LayoutOutput;
+use style::Flow;
 use util::OptionF32;
 
 // Step M, where there is a shift.
@@ -24,7 +24,7 @@ fn align(words: &[u32], rows: &mut [f32], marks: &[u32], shift: OptionF32)
 
 // A leaf's own row; what stands below is zero.
 fn put_leaf(rows: &mut [f32], marks: &mut [u32], q: LayoutInput, o: LayoutOutput)
-    requires { ⌜ Room (now rows) (now marks) ⌝ }
+    requires { ⌜ OneRow (now rows) (now marks) ⌝ }
     ensures { λ _. ⌜ LeafPut (now (rows .entry)) (now (marks .entry)) q o (now (rows .exit)) (now (marks .exit)) ⌝ }
 {
     rows::put_head(rows, marks, q, o);
@@ -34,7 +34,7 @@ fn put_leaf(rows: &mut [f32], marks: &mut [u32], q: LayoutInput, o: LayoutOutput
 
 // May the answer in the first row be kept?
 fn stands(rows: &[f32], marks: &[u32], edits: &[u32], base: usize, n: usize, q: LayoutInput) -> bool
-    requires { ⌜ Room (now rows) (now marks) ⌝ }
+    requires { ⌜ OneRow (now rows) (now marks) ⌝ }
     ensures { λ v. ⌜ Stands (now (rows .entry)) (now (marks .entry)) (now (edits .entry)) base n q v ⌝ }
 {
     if rows::any_edit(edits, base, n) {
@@ -60,7 +60,7 @@ pub fn compute_block_layout(
 {
     let s = style::style_at(words, 0, numbers, base);
     let kind = s.kind;
-    if widths::is_leaf(kind) {
+    if style::is_leaf(kind) {
         let m = s.measure;
         let o = heights::leaf_output(m, q);
         put_leaf(rows, marks, q, o);
@@ -142,7 +142,7 @@ fn perform_child_layout(
     ensures { λ r. ⌜ PlacedT (now (words .entry)) (now (numbers .entry)) (now (rows .entry)) (now (marks .entry)) (now (edits .entry)) base f c r (now (rows .exit)) (now (marks .exit)) ⌝ }
 {
     let s = style::style_at(words, 0, numbers, base);
-    let flow = widths::flow_of(s);
+    let flow = style::flow_of(s);
     match flow {
         Flow::Gone => {
             rows::put_hidden(rows, marks, c.count);

@@ -6,7 +6,8 @@ use lib.Ieee.{Float}
 use Rattle.geometry.specs.Geometry.{zeroF}
 use Rattle.geometry.specs.declared.Size as geometry
 use Rattle.steps.specs.Noes.{paper}
-use Rattle.steps.specs.Results.{Reply, axes, sizeResult, sizePaper}
+use Rattle.steps.specs.SizeQuestion.{axes}
+use Rattle.steps.specs.Results.{Reply, sizeResult, sizePaper}
 use Rattle.steps.specs.declared.Answer.{Answer}
 use Rattle.steps.specs.declared.Answer.the-variants.{Done}
 use Rattle.steps.specs.declared.LayoutInput.{LayoutInput}

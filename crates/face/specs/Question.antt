@@ -20,14 +20,14 @@ unfoldable pub availableOf : ℕ → Float → AvailableSpace
 availableOf k x = pick4 k MaxContent (Definite x) MinContent MaxContent
 
 -- bit 0 known width given, bit 1 known height given, bits 2-3 the kind of available width, bits 4 and 5 the two flags
-unfoldable pub questionOf : Float → Float → Float → Float → ℕ → LayoutInput
-questionOf width height parent available how =
+unfoldable pub plainQuestion : Float → Float → Float → Float → ℕ → LayoutInput
+plainQuestion width height parent available how =
     record {
       known = record { width = given (flagAt how 0) width; height = given (flagAt how 1) height };
       parent = Some parent;
       available = availableOf (codeAt how 1) available;
-      start = flagAt how 4;
-      end = flagAt how 5;
+      collapseStart = flagAt how 4;
+      collapseEnd = flagAt how 5;
       nested = false;
     }
 

@@ -3,7 +3,7 @@ ghost use mathlib.Core.Path.{_≡_};
 ghost use Prim.Native.Nat.{_≤_};
 ghost use Rattle.steps.specs.Noes.{paper};
 ghost use Rattle.steps.specs.Results.{layoutResult, relayoutResult, sizeResult, sizePaper};
-ghost use Rattle.face.specs.Question.{given, availableOf, questionOf, axisOf};
+ghost use Rattle.face.specs.Question.{given, availableOf, plainQuestion, axisOf};
 ghost use Rattle.face.specs.Answered.{Halves, Answered, Sized};
 use length::AvailableSpace;
 use steps::Answer;
@@ -40,7 +40,7 @@ fn available_of(k: u32, x: f32) -> AvailableSpace
 
 // The question that four floats and the bits of a word ask.
 fn question(width: f32, height: f32, parent: f32, available: f32, how: u32) -> LayoutInput
-    ensures { λ r. ⌜ r ≡ questionOf width height parent available how ⌝ }
+    ensures { λ r. ⌜ r ≡ plainQuestion width height parent available how ⌝ }
 {
     let known = OptionSize {
         width: option(flag(how, 0), width),
@@ -50,8 +50,8 @@ fn question(width: f32, height: f32, parent: f32, available: f32, how: u32) -> L
         known,
         parent: OptionF32::Some(parent),
         available: available_of(code(how, 1), available),
-        start: flag(how, 4),
-        end: flag(how, 5),
+        collapseStart: flag(how, 4),
+        collapseEnd: flag(how, 5),
         nested: false,
     }
 }
@@ -107,7 +107,7 @@ pub extern "C" fn mearrasot_layout(
     available: f32,
     how: u32,
 ) -> u64
-    ensures { λ r. ⌜ Answered (layoutResult (now (words .entry)) (now (numbers .entry)) (now (rows .entry)) (now (marks .entry)) (now (pairs .entry)) (now (triples .entry)) (questionOf width height parent available how)) r (now (rows .exit)) (now (marks .exit)) (now (pairs .exit)) (now (triples .exit)) ⌝ }
+    ensures { λ r. ⌜ Answered (layoutResult (now (words .entry)) (now (numbers .entry)) (now (rows .entry)) (now (marks .entry)) (now (pairs .entry)) (now (triples .entry)) (plainQuestion width height parent available how)) r (now (rows .exit)) (now (marks .exit)) (now (pairs .exit)) (now (triples .exit)) ⌝ }
 {
     let q = question(width, height, parent, available, how);
     let a = layout::layout(words, numbers, rows, marks, pairs, triples, q);
@@ -130,7 +130,7 @@ pub extern "C" fn mearrasot_relayout(
     available: f32,
     how: u32,
 ) -> u64
-    ensures { λ r. ⌜ Answered (relayoutResult (now (words .entry)) (now (numbers .entry)) (now (rows .entry)) (now (marks .entry)) (now (pairs .entry)) (now (triples .entry)) (now (edits .entry)) (questionOf width height parent available how)) r (now (rows .exit)) (now (marks .exit)) (now (pairs .exit)) (now (triples .exit)) ⌝ }
+    ensures { λ r. ⌜ Answered (relayoutResult (now (words .entry)) (now (numbers .entry)) (now (rows .entry)) (now (marks .entry)) (now (pairs .entry)) (now (triples .entry)) (now (edits .entry)) (plainQuestion width height parent available how)) r (now (rows .exit)) (now (marks .exit)) (now (pairs .exit)) (now (triples .exit)) ⌝ }
 {
     let q = question(width, height, parent, available, how);
     let a = layout::relayout(words, numbers, rows, marks, pairs, triples, edits, q);
@@ -149,7 +149,7 @@ pub extern "C" fn mearrasot_size(
     available: f32,
     how: u32,
 ) -> u64
-    ensures { λ r. ⌜ Sized (sizeResult (now (words .entry)) (now (numbers .entry)) (questionOf width height parent available how) (axisOf how)) r (now (size .exit)) ⌝ }
+    ensures { λ r. ⌜ Sized (sizeResult (now (words .entry)) (now (numbers .entry)) (plainQuestion width height parent available how) (axisOf how)) r (now (size .exit)) ⌝ }
 {
     let q = question(width, height, parent, available, how);
     let a = measure::size_question(words, numbers, q, axis(how));

@@ -9,7 +9,7 @@ use Rattle.geometry.specs.Geometry.{zeroF, sumAxes, plus}
 use Rattle.geometry.specs.declared.Size.{Size}
 use Rattle.limits.specs.Limits.{sameF, tooLarge}
 use Rattle.util.specs.Math.{larger, smaller, capped, floored, clamped}
-use Rattle.util.specs.Maybe.{unwrapOr, orZero, orElse, isSome, addOpt, subOpt, clampOpt, floorOpt, widthFrom, heightFrom, ratioFills, addSize}
+use Rattle.util.specs.Maybe.{unwrapOr, orZero, orElse, isSome, addOpt, subOpt, clampOpt, floorOpt, ratioWidth, ratioHeight, ratioFills, addSize}
 use Rattle.util.specs.declared.OptionF32.{OptionF32}
 use Rattle.util.specs.declared.OptionF32.the-variants.{None, Some}
 use Rattle.length.specs.Length.{scaled, resolved, resolvedOrZero, isAuto, resolvedRect, resolvedSize}
@@ -22,17 +22,21 @@ use Rattle.margin.specs.Margin.{noMargins, setOf, joined, joinedWith, sumOf}
 use Rattle.alignment.specs.Align.{alignShift}
 use Rattle.tree.specs.Tree.{Tree, countT, flatT, mapT, rootT, onRoot}
 use Rattle.tree.specs.Table.{from, parseF, parseT}
-use Rattle.steps.specs.Sizing.{heightBasis, boxSize, sizedBy, stepA, decided, knownAxis, stepB, filled, stepD, knownOf, barOf, gutter, insets, stepE}
-use Rattle.steps.specs.Width.{positioned, flowBy, flowOf, isLeaf, sideMargins, outerOf, outerWidth, wantBy, wantSized, wantIn, stepF, contentWidth, leafWidth}
-use Rattle.steps.specs.Edges.{stepH, clips, isNormal, newContext, isIn, plainBlock, adjoins, openBox, hollowBox, ownEndOf, framed, frameBy, frameOf}
-use Rattle.steps.specs.Stack.{innerWidth, startOf, negOpt, offsetX, relativeOffset, offsetBy, itemOf, askedWidth, askedHeight, childInput, stepJ, topMargins, bottomMargins, atTop, gapOf, freeOf, shareOf, placeX, placeY, placeOf, pastThrough, pastBox, stepped, lineOf, edgesOf, pastAside, pastHidden}
-use Rattle.steps.specs.Height.{extraOf, stepK, stepL, heldOpen, ownEnd, stepM, stepN, passedOut, outputOf, finished, leafOutput}
+use Rattle.steps.specs.Sizing.{heightBasis, boxSize, sizedBy, stepA, decided, knownAxis, stepB, filled, stepD, knownOf, barOf, gutter, insets, contentBasis}
+use Rattle.style.specs.Flow.{positioned, flowBy, flowOf, isLeaf, isIn}
+use Rattle.steps.specs.Width.{sideMargins, outerOf, outerWidth, wantBy, wantSized, wantIn, wantOf, contentWidth, leafWidth}
+use Rattle.steps.specs.Context.{clips, isNormal, newContext, plainBlock}
+use Rattle.steps.specs.Through.{openBox, hollowBox, stepN, passedOut, outputOf, finished, leafOutput}
+use Rattle.steps.specs.Edges.{basisAgain, adjoins, ownEndOf, stepI, frameBy, frameOf}
+use Rattle.steps.specs.Stack.{innerWidth, startOf, negOpt, offsetX, relativeOffset, offsetBy, itemOf, askedWidth, askedHeight, childInput, questionTo, topMargins, bottomMargins, atTop, gapOf, freeOf, shareOf, placeX, placeY, placeOf, pastThrough, pastBox, stepped, lineOf, edgesOf, pastAside, pastHidden}
+use Rattle.steps.specs.Height.{extraOf, stepK, stepL, heldOpen, stillOwnEnd, stepM}
 use Rattle.steps.specs.Row.{isLaid, isOut, availableKind, probeCode, noProbe, probeNote, probeOf, withCode, noted, bare, noRow, hiddenRow, asideRow, laidRow, outputIn, putAt, lowered}
 use Rattle.steps.specs.Page.{Site, named, anyT, siteAt, cellAt, pageOf, cellsOf, blank, cleared, staying, probedAnew, edits}
 use Rattle.steps.specs.Probe as probe
 use Rattle.steps.specs.Kept.{finalStands, editedNode, kept, keptRow, laidBits, belowRow, zerosT, zerosF, fixT, keep}
 use Rattle.steps.specs.Layout.{lowerF, alignF, leafLaid, blockLaid, skip, aside, place, layT, askT, relaid, fresh}
-use Rattle.steps.specs.Results.{rowsOut, axes, stepG, sizeBelow, widthKnown, stepC, sizeOf}
+use Rattle.steps.specs.SizeQuestion.{axes, stepG, sizeBelow, widthKnown, stepC, sizeOf}
+use Rattle.steps.specs.Results.{rowsOut}
 use Rattle.steps.specs.declared.LayoutInput.{LayoutInput}
 use Rattle.steps.specs.declared.RequestedAxis.{RequestedAxis}
 use Rattle.steps.specs.declared.RequestedAxis.the-variants.{Horizontal, Both}
@@ -64,14 +68,14 @@ unfoldable pub numbersOf : List Given → List Float → List Float
 numbersOf [] xs = xs
 numbersOf (g ∷ gs) xs = numbersOf gs (set xs (27 * g .node + g .field) (ofBits binary32 (g .bits)))
 
-unfoldable pub questionOf : Checked → LayoutInput
-questionOf p =
+unfoldable pub checkedQuestion : Checked → LayoutInput
+checkedQuestion p =
     record {
       known = record { width = p .width; height = None };
       parent = Some (ofBits binary32 0x42c8_0000);
       available = MaxContent;
-      start = p .flags;
-      end = p .flags;
+      collapseStart = p .flags;
+      collapseEnd = p .flags;
       nested = false;
     }
 
@@ -87,7 +91,7 @@ answerTo (rows ks) t q = readAt (rowsOut (fresh t q .rows)) ks
 answerTo (size a) t q = sizeBits (sizeOf t q a)
 
 unfoldable pub resultOf : Checked → List ℕ
-resultOf p = answerTo (p .asked) (pageOf (p .words) (numbersOf (p .numbers) (replicate 108 zeroF)) []) (questionOf p)
+resultOf p = answerTo (p .asked) (pageOf (p .words) (numbersOf (p .numbers) (replicate 108 zeroF)) []) (checkedQuestion p)
 
 abbrev hundred : OptionF32
 hundred = Some (ofBits binary32 0x42c8_0000)
@@ -110,5 +114,5 @@ table =
 
 -- every page of the table gives what it should
 pub checked-pages : map resultOf table ≡ map (λ (p : Checked). p .expected) table
-unfolding sumAxes plus sameF tooLarge larger smaller capped floored clamped unwrapOr orZero orElse isSome addOpt subOpt clampOpt floorOpt widthFrom heightFrom ratioFills addSize scaled resolved resolvedOrZero isAuto resolvedRect resolvedSize availableLess definite kindOf positionOf overflowOf overflowXY alignOf unitOf lengthOf ratioOf wordAt numberAt lengthAt sizeAt rectAt measureAt styleAt noMargins setOf joined joinedWith sumOf alignShift countT flatT mapT rootT onRoot from parseF parseT heightBasis boxSize sizedBy stepA decided knownAxis stepB filled stepD knownOf barOf gutter insets stepE positioned flowBy flowOf isLeaf sideMargins outerOf outerWidth wantBy wantSized wantIn stepF contentWidth leafWidth stepH clips isNormal newContext isIn plainBlock adjoins openBox hollowBox ownEndOf framed frameBy frameOf innerWidth startOf negOpt offsetX relativeOffset offsetBy itemOf askedWidth askedHeight childInput stepJ topMargins bottomMargins atTop gapOf freeOf shareOf placeX placeY placeOf pastThrough pastBox stepped lineOf edgesOf pastAside pastHidden extraOf stepK stepL heldOpen ownEnd stepM stepN passedOut outputOf finished leafOutput isLaid isOut availableKind probeCode noProbe probeNote probeOf withCode noted bare noRow hiddenRow asideRow laidRow outputIn putAt lowered named anyT siteAt cellAt pageOf cellsOf blank cleared staying probedAnew edits finalStands editedNode kept keptRow laidBits belowRow zerosT zerosF fixT keep lowerF alignF leafLaid blockLaid skip aside place layT askT relaid fresh rowsOut axes stepG sizeBelow widthKnown stepC sizeOf probe.probeStands probe.answered probe.probeKnown probe.spaceIn probe.widthFrom probe.asked probe.blockProbe probe.stay probe.widen probe.probeT probe.askP probe.passBy probe.widthPass numbersOf questionOf readAt sizeBits answerTo resultOf table ofBits toBits add sub mul div lt le eq neg
+unfolding sumAxes plus sameF tooLarge larger smaller capped floored clamped unwrapOr orZero orElse isSome addOpt subOpt clampOpt floorOpt ratioWidth ratioHeight ratioFills addSize scaled resolved resolvedOrZero isAuto resolvedRect resolvedSize availableLess definite kindOf positionOf overflowOf overflowXY alignOf unitOf lengthOf ratioOf wordAt numberAt lengthAt sizeAt rectAt measureAt styleAt noMargins setOf joined joinedWith sumOf alignShift countT flatT mapT rootT onRoot from parseF parseT heightBasis boxSize sizedBy stepA decided knownAxis stepB filled stepD knownOf barOf gutter insets contentBasis positioned flowBy flowOf isLeaf sideMargins outerOf outerWidth wantBy wantSized wantIn wantOf contentWidth leafWidth basisAgain clips isNormal newContext isIn plainBlock adjoins openBox hollowBox ownEndOf stepI frameBy frameOf innerWidth startOf negOpt offsetX relativeOffset offsetBy itemOf askedWidth askedHeight childInput questionTo topMargins bottomMargins atTop gapOf freeOf shareOf placeX placeY placeOf pastThrough pastBox stepped lineOf edgesOf pastAside pastHidden extraOf stepK stepL heldOpen stillOwnEnd stepM stepN passedOut outputOf finished leafOutput isLaid isOut availableKind probeCode noProbe probeNote probeOf withCode noted bare noRow hiddenRow asideRow laidRow outputIn putAt lowered named anyT siteAt cellAt pageOf cellsOf blank cleared staying probedAnew edits finalStands editedNode kept keptRow laidBits belowRow zerosT zerosF fixT keep lowerF alignF leafLaid blockLaid skip aside place layT askT relaid fresh rowsOut axes stepG sizeBelow widthKnown stepC sizeOf probe.probeStands probe.answered probe.probeKnown probe.spaceIn probe.foundWidth probe.asked probe.blockProbe probe.stay probe.widen probe.probeT probe.askP probe.passBy probe.widthPass numbersOf checkedQuestion readAt sizeBits answerTo resultOf table ofBits toBits add sub mul div lt le eq neg
 checked-pages = refl

@@ -1,12 +1,15 @@
 // Steps H and I: a container's frame (the crate's compute_inner up to its items).
 ghost use mathlib.Core.Path.{_≡_};
-ghost use Rattle.steps.specs.Edges.{clips, isNormal, newContext, isIn, plainBlock, adjoins, openBox, hollowBox, ownEndOf, framed, frameBy, frameOf};
+ghost use Rattle.style.specs.Flow.{isIn};
+ghost use Rattle.steps.specs.Context.{clips, isNormal, newContext, plainBlock};
+ghost use Rattle.steps.specs.Through.{openBox, hollowBox};
+ghost use Rattle.steps.specs.Edges.{adjoins, ownEndOf, stepI, frameBy, frameOf};
 use geometry::Rect;
-use steps::Flow;
 use steps::Frame;
 use steps::LayoutInput;
 use steps::Sizing;
 use style::AlignContent;
+use style::Flow;
 use style::Overflow;
 use style::Style;
 use util::OptionF32;
@@ -69,8 +72,8 @@ pub fn is_plain_block(s: Style) -> bool
     ensures { λ r. ⌜ r ≡ plainBlock s ⌝ }
 {
     let kind = s.kind;
-    if is_in(widths::flow_of(s)) {
-        if widths::is_leaf(kind) {
+    if is_in(style::flow_of(s)) {
+        if style::is_leaf(kind) {
             return false;
         }
         return !establishes_new_bfc(s);
@@ -137,7 +140,7 @@ fn framed_by(
     padding: Rect,
     border: Rect,
 ) -> Frame
-    ensures { λ r. ⌜ r ≡ framed s q z known width padding border ⌝ }
+    ensures { λ r. ⌜ r ≡ stepI s q z known width padding border ⌝ }
 {
     let size = z.size;
     let min = z.min;
@@ -153,11 +156,11 @@ fn framed_by(
         height,
         inset: sizing::content_box_inset(s, both),
         floor: both.vertical_axis_sum(),
-        min: lo,
-        max: hi,
+        minHeight: lo,
+        maxHeight: hi,
         basis: sizing::content_basis(known, sizing::content_box_inset(s, zb)),
-        start: edge_adjoins(s, q.start, padding.top, border.top),
-        end: own_end(s, q.end, padding.bottom, border.bottom, sh),
+        ownStart: edge_adjoins(s, q.collapseStart, padding.top, border.top),
+        ownEnd: own_end(s, q.collapseEnd, padding.bottom, border.bottom, sh),
         hollow: is_hollow(s, q.nested, padding, border),
         rtl: s.rtl,
     }

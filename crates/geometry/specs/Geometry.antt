@@ -1,5 +1,6 @@
 -- Sums over a rectangle's sides: left + right, top + bottom, and side by side.
-use lib.Ieee.{Float, add, ofBits, binary32}
+use lib.Ieee.{Float, ofBits, binary32}
+use Rattle.geometry.specs.Floats.{_⊕_}
 use Rattle.geometry.specs.declared.Size.{Size}
 use Rattle.geometry.specs.declared.Rect.{Rect}
 
@@ -9,11 +10,11 @@ zeroF = ofBits binary32 0
 
 -- left + right
 abbrev pub across : Rect → Float
-across r = add binary32 (r .left) (r .right)
+across r = r .left ⊕ r .right
 
 -- top + bottom
 abbrev pub down : Rect → Float
-down r = add binary32 (r .top) (r .bottom)
+down r = r .top ⊕ r .bottom
 
 -- both sums
 unfoldable pub sumAxes : Rect → Size
@@ -23,8 +24,8 @@ sumAxes r = record { width = across r; height = down r }
 unfoldable pub plus : Rect → Rect → Rect
 plus a b =
     record {
-      top = add binary32 (a .top) (b .top);
-      right = add binary32 (a .right) (b .right);
-      bottom = add binary32 (a .bottom) (b .bottom);
-      left = add binary32 (a .left) (b .left);
+      top = a .top ⊕ b .top;
+      right = a .right ⊕ b .right;
+      bottom = a .bottom ⊕ b .bottom;
+      left = a .left ⊕ b .left;
     }

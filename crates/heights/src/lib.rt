@@ -2,7 +2,8 @@
 ghost use mathlib.Core.Path.{_≡_};
 ghost use mathlib.Core.Bool.{_||_};
 ghost use Rattle.steps.specs.Stack.{atTop};
-ghost use Rattle.steps.specs.Height.{extraOf, stepK, stepL, heldOpen, ownEnd, stepM, stepN, passedOut, outputOf, finished, leafOutput};
+ghost use Rattle.steps.specs.Through.{stepN, passedOut, outputOf, finished, leafOutput};
+ghost use Rattle.steps.specs.Height.{extraOf, stepK, stepL, heldOpen, stillOwnEnd, stepM};
 use geometry::Size;
 use margin::CollapsibleMarginSet;
 use steps::Cursor;
@@ -15,9 +16,13 @@ use style::Style;
 use util::OptionF32;
 
 fn ends_or_tops(f: Frame, c: Cursor) -> bool
-    ensures { λ r. ⌜ r ≡ (f .end || atTop f c) ⌝ }
+    ensures { λ r. ⌜ r ≡ (f .ownEnd || atTop f c) ⌝ }
 {
-    if f.end { true } else { stacking::at_top(f, c) }
+    if f.ownEnd {
+        true
+    } else {
+        stacking::at_top(f, c)
+    }
 }
 
 fn extra_of(f: Frame, c: Cursor) -> f32
@@ -41,8 +46,8 @@ fn outer_height(f: Frame, content: f32) -> f32
     ensures { λ r. ⌜ r ≡ stepL f content ⌝ }
 {
     let height = f.height;
-    let lo = f.min;
-    let hi = f.max;
+    let lo = f.minHeight;
+    let hi = f.maxHeight;
     util::f32_max(
         height.unwrap_or(util::maybe_clamp(content, lo, hi)),
         f.floor,
@@ -59,10 +64,14 @@ fn held_open(lo: OptionF32, height: f32) -> bool
 }
 
 fn own_end(f: Frame, height: f32) -> bool
-    ensures { λ r. ⌜ r ≡ ownEnd f height ⌝ }
+    ensures { λ r. ⌜ r ≡ stillOwnEnd f height ⌝ }
 {
-    let lo = f.min;
-    if f.end { !held_open(lo, height) } else { false }
+    let lo = f.minHeight;
+    if f.ownEnd {
+        !held_open(lo, height)
+    } else {
+        false
+    }
 }
 
 // Step M.
@@ -81,7 +90,7 @@ fn can_be_collapsed_through(f: Frame, c: Cursor, height: f32) -> bool
 {
     if f.hollow {
         if height == 0.0 {
-            return c.through;
+            return c.allThrough;
         }
     }
     false
@@ -112,7 +121,7 @@ fn output_of(s: Style, q: LayoutInput, f: Frame, c: Cursor, height: f32) -> Layo
     };
     LayoutOutput {
         size,
-        top: passed_out(f.start, top, length::resolve_or_zero(mt, parent)),
+        top: passed_out(f.ownStart, top, length::resolve_or_zero(mt, parent)),
         bottom: passed_out(
             own_end(f, height),
             strut,

@@ -3,7 +3,7 @@ use mathlib.Core.Path.{_≡_, refl, sym, ap, _∙_}
 use mathlib.Core.Bool.{false}
 use Rattle.tree.specs.Tree.{Tree, node, mapT}
 use Rattle.tree.proofs.Laws.{map-mapT}
-use Rattle.steps.specs.Row.{Probe, noRow, isLaid}
+use Rattle.steps.specs.Row.{ProbeWords, noRow, isLaid}
 use Rattle.steps.specs.Page.{Site, Cell, Node, blank}
 use Rattle.steps.specs.Probe.{widthPass}
 use Rattle.steps.specs.Layout.{layT, relaid, fresh}
@@ -23,7 +23,7 @@ siteOf n = unmarked (n .site)
 same-bare : (m n : Node) → unmarked (m .site) ≡ unmarked (n .site) → m .probe ≡ n .probe → bareN m ≡ bareN n
 same-bare m n p q = go (unmarked (m .site)) (unmarked (n .site)) (m .probe) (n .probe) p q
   where
-    go : (a b : Site) (x y : Probe) → a ≡ b → x ≡ y → _≡_ {A = Node} (record { site = a; old = noRow; probe = x; anew = false }) (record { site = b; old = noRow; probe = y; anew = false })
+    go : (a b : Site) (x y : ProbeWords) → a ≡ b → x ≡ y → _≡_ {A = Node} (record { site = a; old = noRow; probe = x; anew = false }) (record { site = b; old = noRow; probe = y; anew = false })
     go a b x y p q = rw (p, q)
 
 pub sites-T : (t : Tree Cell) (q : LayoutInput) → mapT siteOf (widthPass t q .nodes) ≡ mapT siteIn t

@@ -10,14 +10,14 @@ use Rattle.util.specs.declared.OptionF32.the-variants.{None, Some}
 use Rattle.style.specs.declared.Style.{Style}
 use Rattle.tree.specs.Tree.{Tree, Forest, node, none, more, mapT, mapF, rootT, onRoot}
 use Rattle.tree.proofs.Laws.{mapT-node, mapF-more, rootT-node, rootT-map, onRoot-node}
-use Rattle.steps.specs.Width.{isLeaf, flowOf}
-use Rattle.steps.specs.Stack.{startOf, stepJ, itemOf, placeOf, stepped, lineOf, edgesOf, pastAside, pastHidden}
-use Rattle.steps.specs.Row.{Row, Probe, isLaid, noRow, hiddenRow, asideRow, laidRow, putAt}
+use Rattle.style.specs.Flow.{isLeaf, flowOf}
+use Rattle.steps.specs.Stack.{startOf, questionTo, itemOf, placeOf, stepped, lineOf, edgesOf, pastAside, pastHidden}
+use Rattle.steps.specs.Row.{Row, ProbeWords, isLaid, noRow, hiddenRow, asideRow, laidRow, putAt}
 use Rattle.steps.specs.Page.{Node}
 use Rattle.steps.specs.Kept.{Laid, zerosT, zerosF}
 use Rattle.steps.specs.Layout.{layT, layF, askT, skip, aside, place, lowerF, alignF}
-use Rattle.steps.specs.declared.Flow.{Flow}
-use Rattle.steps.specs.declared.Flow.the-variants.{Gone, Out, In}
+use Rattle.style.specs.declared.Flow.{Flow}
+use Rattle.style.specs.declared.Flow.the-variants.{Gone, Out, In}
 use Rattle.steps.specs.declared.LayoutInput.{LayoutInput}
 use Rattle.steps.specs.declared.Frame.{Frame}
 use Rattle.steps.specs.declared.Cursor.{Cursor}
@@ -30,7 +30,7 @@ use Rattle.laws.specs.Pages.{Both, siteBy}
 -- after the width pass: what a node's probe words are now, and whether it was probed anew
 pub record Full : Type 0 where
   pub both : Both
-  pub probe : Probe
+  pub probe : ProbeWords
   pub anew : Bool
 
 abbrev pub oldF : Full → Row
@@ -70,7 +70,7 @@ pub root-laid : (t : Tree Node) (q : LayoutInput) (found : Float) → isLaid (ro
 root-laid (node n ks) q found = ap isLaid (root-row n ks q found) ∙ laid-row q _ (n .probe)
 
 -- a page of which nothing is kept, with some styles and some probe words
-module _ (st : Full → Style) (pr : Full → Probe) where
+module _ (st : Full → Style) (pr : Full → ProbeWords) where
   abbrev pub viewN : Full → Node
   viewN l = record { site = siteBy (l .both .node) (st l); old = noRow; probe = pr l; anew = false }
 
@@ -112,7 +112,7 @@ module _ (st : Full → Style) (pr : Full → Probe) where
   down-leaf l ks q found p n e b = kids-rows l ks q found p n e ∙ ap kidsT (leaf-rows (viewN l) (mapF viewN ks) q found b) ∙ zeros-F viewN ks
 
   pub down : (l : Full) (ks : Forest Full) (q : LayoutInput) (found : Float) (p : Point) (n : ℕ) → RowsT (node l ks) q found p n → isLeaf (st l .kind) ≡ false
-      → RowsF ks (shiftOf (viewN l) q found (stackOf (viewN l) (mapF viewN ks) q found .end)) (frameAt (viewN l) q found) (startOf (frameAt (viewN l) q found))
+      → RowsF ks (shiftOf (viewN l) q found (stackOf (viewN l) (mapF viewN ks) q found .last)) (frameAt (viewN l) q found) (startOf (frameAt (viewN l) q found))
   down l ks q found p n e b = kids-rows l ks q found p n e ∙ ap kidsT (block-rows (viewN l) (mapF viewN ks) q found b)
 
   -- along: a hidden child, one out of flow, one that is laid
@@ -125,7 +125,7 @@ module _ (st : Full → Style) (pr : Full → Probe) where
     pub rest : RowsF ts d f (pastAside c)
 
   abbrev pub laidIn : Tree Full → Frame → Laid
-  laidIn t f = layT (mapT viewN t) (stepJ f (st (rootT t))) zeroF
+  laidIn t f = layT (mapT viewN t) (questionTo f (st (rootT t))) zeroF
 
   abbrev pub placeFor : Tree Full → OptionF32 → Frame → Cursor → Point
   placeFor t d f c = movedTo d (placeOf f c (itemOf f (st (rootT t))) (laidIn t f .out))
@@ -134,7 +134,7 @@ module _ (st : Full → Style) (pr : Full → Probe) where
   nextFor t f c = stepped f c (itemOf f (st (rootT t))) (laidIn t f .out)
 
   pub record Shown (t : Tree Full) (ts : Forest Full) (d : OptionF32) (f : Frame) (c : Cursor) : Type 0 where
-    pub rows : RowsT t (stepJ f (st (rootT t))) zeroF (placeFor t d f c) (c .shown .0)
+    pub rows : RowsT t (questionTo f (st (rootT t))) zeroF (placeFor t d f c) (c .shown .0)
     pub rest : RowsF ts d f (nextFor t f c)
 
   first-of : (t : Tree Full) (ts : Forest Full) (u : Tree Row) (us : Forest Row) → mapF oldF (more t ts) ≡ more u us → mapT oldF t ≡ u
@@ -164,7 +164,7 @@ module _ (st : Full → Style) (pr : Full → Probe) where
       → alignF d (layF (mapF viewN (more t ts)) f c .rows) ≡ more (onRoot (putAt (placeFor t d f c) (c .shown .0)) (laidIn t f .rows)) (alignF d (layF (mapF viewN ts) f (nextFor t f c) .rows))
   unfolding place
   in-rows t ts d f c e =
-      rw (mapF-more viewN t ts, layF-in (mapT viewN t) (mapF viewN ts) f c (flow-view t In e), root-view t, ask-view t (stepJ f (st (rootT t))), align-more, on-laid d (placeOf f c (itemOf f (st (rootT t))) (laidIn t f .out)) (c .shown .0) (laidIn t f .rows) (root-laid (mapT viewN t) _ zeroF))
+      rw (mapF-more viewN t ts, layF-in (mapT viewN t) (mapF viewN ts) f c (flow-view t In e), root-view t, ask-view t (questionTo f (st (rootT t))), align-more, on-laid d (placeOf f c (itemOf f (st (rootT t))) (laidIn t f .out)) (c .shown .0) (laidIn t f .rows) (root-laid (mapT viewN t) _ zeroF))
 
   pub along-gone : (t : Tree Full) (ts : Forest Full) (d : OptionF32) (f : Frame) (c : Cursor) → RowsF (more t ts) d f c → flowOf (st (rootT t)) ≡ Gone → Hidden t ts d f c
   along-gone t ts d f c e w = record { rows = first-of t ts _ _ (e ∙ gone-rows t ts d f c w); rest = rest-of t ts _ _ (e ∙ gone-rows t ts d f c w) }

@@ -6,14 +6,14 @@ use lib.Ieee.{Float}
 use Rattle.geometry.specs.Geometry.{zeroF}
 use Rattle.style.specs.declared.Style.{Style}
 use Rattle.tree.specs.Tree.{Tree, Forest, node, none, more, mapT, mapF, rootT, onRoot}
-use Rattle.steps.specs.Width.{isLeaf, flowOf}
+use Rattle.style.specs.Flow.{isLeaf, flowOf}
 use Rattle.steps.specs.Edges.{frameOf}
-use Rattle.steps.specs.Stack.{stepJ}
+use Rattle.steps.specs.Stack.{questionTo}
 use Rattle.steps.specs.Row.{Row}
 use Rattle.steps.specs.Page.{Cell, Node}
 use Rattle.steps.specs.Probe.{widthPass}
 use Rattle.steps.specs.Kept.{kept}
-use Rattle.steps.specs.declared.Flow.the-variants.{Gone, Out, In}
+use Rattle.style.specs.declared.Flow.the-variants.{Gone, Out, In}
 use Rattle.steps.specs.declared.LayoutInput.{LayoutInput}
 use Rattle.steps.specs.declared.Frame.{Frame}
 
@@ -57,7 +57,7 @@ unfoldable mutual
       (elim (flowOf (rootT t .site .style)) [
         | Gone ↦ mapT (λ _. false) t
         | Out ↦ mapT (λ _. false) t
-        | In ↦ elim (kept t (stepJ f (rootT t .site .style))) [ true ↦ under t | false ↦ belowT t (stepJ f (rootT t .site .style)) zeroF ]
+        | In ↦ elim (kept t (questionTo f (rootT t .site .style))) [ true ↦ under t | false ↦ belowT t (questionTo f (rootT t .site .style)) zeroF ]
       ])
       (belowF ts f)
 

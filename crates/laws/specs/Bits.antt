@@ -18,8 +18,8 @@ use Rattle.length.specs.declared.AvailableSpace.{AvailableSpace}
 use Rattle.length.specs.declared.AvailableSpace.the-variants.{Definite, MinContent, MaxContent}
 use Rattle.style.specs.Codes.{flagAt}
 use Rattle.style.specs.declared.Style.{Style}
-use Rattle.steps.specs.Stack.{stepJ, childInput, itemOf, innerWidth, askedWidth, askedHeight}
-use Rattle.steps.specs.Row.{Row, Probe, isLaid, isOut, bit, availableKind, probeCode, probeNote, noProbe, probeOf, withCode, noted, bare, hiddenRow, asideRow, laidRow, outputIn, putAt, lowered}
+use Rattle.steps.specs.Stack.{questionTo, childInput, itemOf, innerWidth, askedWidth, askedHeight}
+use Rattle.steps.specs.Row.{Row, ProbeWords, isLaid, isOut, bit, availableKind, probeCode, probeNote, noProbe, probeOf, withCode, noted, bare, hiddenRow, asideRow, laidRow, outputIn, putAt, lowered}
 use Rattle.steps.specs.Page.{Node}
 use Rattle.steps.specs.Probe.{probeStands}
 use Rattle.steps.specs.Kept.{finalStands, keptRow, laidBits, belowRow}
@@ -82,15 +82,15 @@ unfolding laidBits
 bits-below t h c d p = rw (bits-through t h c, bits-given t h c, bits-high t h c p) (omega arith)
 
 -- a laid row, wherever it is placed: laid, its answer, its probe words
-pub laid-row : (q : LayoutInput) (o : LayoutOutput) (p : Probe) → isLaid (laidRow q o p) ≡ true
+pub laid-row : (q : LayoutInput) (o : LayoutOutput) (p : ProbeWords) → isLaid (laidRow q o p) ≡ true
 unfolding isLaid laidRow
 laid-row q o p = rw (bits-laid (o .through) (isSome (q .known .height)) (p .code))
 
-pub out-row : (q : LayoutInput) (o : LayoutOutput) (p : Probe) (x : Point) (n : ℕ) → outputIn (putAt x n (laidRow q o p)) ≡ o
+pub out-row : (q : LayoutInput) (o : LayoutOutput) (p : ProbeWords) (x : Point) (n : ℕ) → outputIn (putAt x n (laidRow q o p)) ≡ o
 unfolding outputIn putAt laidRow
 out-row q o p x n = rw (bits-through (o .through) (isSome (q .known .height)) (p .code), is-bit (o .through))
 
-pub words-row : (q : LayoutInput) (o : LayoutOutput) (p : Probe) → p .code < 16 → probeOf (laidRow q o p) ≡ p
+pub words-row : (q : LayoutInput) (o : LayoutOutput) (p : ProbeWords) → p .code < 16 → probeOf (laidRow q o p) ≡ p
 unfolding probeOf laidRow
 words-row q o p h =
     let e : p .code % 16 ≡ p .code = omega arith in
@@ -101,22 +101,22 @@ unfolding probeOf
 row-small r = omega arith
 
 -- with other probe words: a kept row, and one below a kept row
-kept-words : (r : Row) (w p : Probe) (q : LayoutInput) (o : LayoutOutput) (x y : Point) (m n : ℕ) → r ≡ putAt x m (laidRow q o p) → p .code < 16
+kept-words : (r : Row) (w p : ProbeWords) (q : LayoutInput) (o : LayoutOutput) (x y : Point) (m n : ℕ) → r ≡ putAt x m (laidRow q o p) → p .code < 16
     → putAt y n (noted r w (withCode (r .bits) (w .code))) ≡ putAt y n (laidRow q o w)
 unfolding putAt noted laidRow
 kept-words r w p q o x y m n e h = rw e (rw (bits-kept (o .through) (isSome (q .known .height)) (p .code) (w .code) h))
 
-pub kept-row : (l : Node) (p : Probe) (q : LayoutInput) (o : LayoutOutput) (x y : Point) (m n : ℕ) → l .old ≡ putAt x m (laidRow q o p) → p .code < 16
+pub kept-row : (l : Node) (p : ProbeWords) (q : LayoutInput) (o : LayoutOutput) (x y : Point) (m n : ℕ) → l .old ≡ putAt x m (laidRow q o p) → p .code < 16
     → putAt y n (keptRow l) ≡ putAt y n (laidRow q o (l .probe))
 unfolding keptRow
 kept-row l p q o x y m n e h = kept-words (l .old) (l .probe) p q o x y m n e h
 
-below-words : (r : Row) (w p : Probe) (q : LayoutInput) (o : LayoutOutput) (x : Point) (m : ℕ) → r ≡ putAt x m (laidRow q o p) → p .code < 16
+below-words : (r : Row) (w p : ProbeWords) (q : LayoutInput) (o : LayoutOutput) (x : Point) (m : ℕ) → r ≡ putAt x m (laidRow q o p) → p .code < 16
     → noted r w (laidBits (r .bits) (w .code)) ≡ putAt x m (laidRow q o w)
 unfolding putAt noted laidRow
 below-words r w p q o x m e h = rw e (rw (bits-below (o .through) (isSome (q .known .height)) (p .code) (w .code) h))
 
-pub below-row : (l : Node) (p : Probe) (q : LayoutInput) (o : LayoutOutput) (x : Point) (m : ℕ) → l .old ≡ putAt x m (laidRow q o p) → p .code < 16
+pub below-row : (l : Node) (p : ProbeWords) (q : LayoutInput) (o : LayoutOutput) (x : Point) (m : ℕ) → l .old ≡ putAt x m (laidRow q o p) → p .code < 16
     → belowRow l ≡ putAt x m (laidRow q o (l .probe))
 unfolding belowRow
 below-row l p q o x m e h = below-words (l .old) (l .probe) p q o x m e h
@@ -169,23 +169,23 @@ unfolding orZero
 some-is v w e = e
 
 same-input : (v w i j : Float) (h k : OptionF32) (b : Bool) → v ≡ w → i ≡ j → h ≡ k
-    → _≡_ {A = LayoutInput} (record { known = record { width = Some v; height = h }; parent = Some i; available = MaxContent; start = b; end = b; nested = true }) (record { known = record { width = Some w; height = k }; parent = Some j; available = MaxContent; start = b; end = b; nested = true })
+    → _≡_ {A = LayoutInput} (record { known = record { width = Some v; height = h }; parent = Some i; available = MaxContent; collapseStart = b; collapseEnd = b; nested = true }) (record { known = record { width = Some w; height = k }; parent = Some j; available = MaxContent; collapseStart = b; collapseEnd = b; nested = true })
 same-input v w i j h k b p q r = rw (p, q, r)
 
-pub final-is : (f g : Frame) (s : Style) (o : LayoutOutput) (p : Probe) (x : Point) (n : ℕ) (r : Row) → r ≡ putAt x n (laidRow (stepJ g s) o p) → finalStands (stepJ f s) r ≡ true → stepJ f s ≡ stepJ g s
-unfolding finalStands stepJ childInput putAt laidRow
+pub final-is : (f g : Frame) (s : Style) (o : LayoutOutput) (p : ProbeWords) (x : Point) (n : ℕ) (r : Row) → r ≡ putAt x n (laidRow (questionTo g s) o p) → finalStands (questionTo f s) r ≡ true → questionTo f s ≡ questionTo g s
+unfolding finalStands questionTo childInput putAt laidRow
 final-is f g s o p x n r e h =
     let a = itemOf f s in
     let b = itemOf g s in
     let h1 = and-snd (isLaid r) _ h in
-    let h2 = and-snd (sameF (r .knownW) _) _ h1 in
-    let h3 = and-snd (sameF (r .knownH) _) _ h2 in
-    let w : r .knownW ≡ orZero (Some (askedWidth f a)) = same-is _ _ (and-fst (sameF (r .knownW) _) _ h1) in
-    let i : r .parent ≡ orZero (Some (innerWidth f)) = same-is _ _ (and-snd (Bool·beq (flagAt (r .bits) 3) _) _ h3) in
-    let k : sameF (orZero (askedHeight b)) (orZero (askedHeight a)) ≡ true = ap (λ (v : Float). sameF v (orZero (askedHeight a))) (sym (ap (λ (z : Row). z .knownH) e)) ∙ and-fst (sameF (r .knownH) _) _ h2 in
+    let h2 = and-snd (sameF (r .asked .width) _) _ h1 in
+    let h3 = and-snd (sameF (r .asked .height) _) _ h2 in
+    let w : r .asked .width ≡ orZero (Some (askedWidth f a)) = same-is _ _ (and-fst (sameF (r .asked .width) _) _ h1) in
+    let i : r .asked .parent ≡ orZero (Some (innerWidth f)) = same-is _ _ (and-snd (Bool·beq (flagAt (r .bits) 3) _) _ h3) in
+    let k : sameF (orZero (askedHeight b)) (orZero (askedHeight a)) ≡ true = ap (λ (v : Float). sameF v (orZero (askedHeight a))) (sym (ap (λ (z : Row). z .asked .height) e)) ∙ and-fst (sameF (r .asked .height) _) _ h2 in
     let m : flagAt (r .bits) 3 ≡ isSome (askedHeight a) = beq-is _ _ (and-fst (Bool·beq (flagAt (r .bits) 3) _) _ h3) in
     let z : isSome (askedHeight b) ≡ isSome (askedHeight a) = sym (ap (λ (v : Row). flagAt (v .bits) 3) e ∙ rw (bits-given (o .through) (isSome (askedHeight b)) (p .code), is-bit (isSome (askedHeight b)))) ∙ m in
-    same-input _ _ _ _ _ _ _ (some-is _ _ (sym w ∙ ap (λ (v : Row). v .knownW) e)) (some-is _ _ (sym i ∙ ap (λ (v : Row). v .parent) e)) (sym (option-is _ _ k z))
+    same-input _ _ _ _ _ _ _ (some-is _ _ (sym w ∙ ap (λ (v : Row). v .asked .width) e)) (some-is _ _ (sym i ∙ ap (λ (v : Row). v .asked .parent) e)) (sym (option-is _ _ k z))
 
 -- the same of a probe: its three numbers and code settle what stands
 code-on : (b c : ℕ) → b / 16 % 16 ≡ c → b / 16 % 2 ≡ c % 2
@@ -235,12 +235,12 @@ same-probe a b h k p q = rw (p, q)
 pub probe-is : (q g : ProbeInput) (a : Float) (r : Row) → probeOf r ≡ probeNote g a → probeStands q r ≡ true → q ≡ g
 unfolding probeStands probeOf probeNote
 probe-is q g a r e h =
-    let c : r .bits / 16 % 16 ≡ probeCode g = ap (λ (p : Probe). p .code) e in
+    let c : r .bits / 16 % 16 ≡ probeCode g = ap (λ (p : ProbeWords). p .code) e in
     let h1 = and-snd (flagAt (r .bits) 4) _ h in
-    let h2 = and-snd (sameF (r .probeW) _) _ h1 in
-    let h3 = and-snd (sameF (r .probeH) _) _ h2 in
-    let w : sameF (orZero (definite (g .available))) (orZero (definite (q .available))) ≡ true = ap (λ (p : Probe). sameF (p .width) (orZero (definite (q .available)))) (sym e) ∙ and-fst (sameF (r .probeW) _) _ h1 in
-    let t : sameF (orZero (g .height)) (orZero (q .height)) ≡ true = ap (λ (p : Probe). sameF (p .height) (orZero (q .height))) (sym e) ∙ and-fst (sameF (r .probeH) _) _ h2 in
+    let h2 = and-snd (sameF (r .probe .width) _) _ h1 in
+    let h3 = and-snd (sameF (r .probe .height) _) _ h2 in
+    let w : sameF (orZero (definite (g .available))) (orZero (definite (q .available))) ≡ true = ap (λ (p : ProbeWords). sameF (p .numbers .width) (orZero (definite (q .available)))) (sym e) ∙ and-fst (sameF (r .probe .width) _) _ h1 in
+    let t : sameF (orZero (g .height)) (orZero (q .height)) ≡ true = ap (λ (p : ProbeWords). sameF (p .numbers .height) (orZero (q .height))) (sym e) ∙ and-fst (sameF (r .probe .height) _) _ h2 in
     let k : r .bits / 32 % 4 ≡ availableKind (q .available) = eqb-true _ _ (and-fst (eqb (r .bits / 32 % 4) _) _ h3) in
     let n : flagAt (r .bits) 7 ≡ isSome (q .height) = beq-is _ _ (and-snd (eqb (r .bits / 32 % 4) _) _ h3) in
     let k1 : availableKind (g .available) ≡ availableKind (q .available) = sym (code-kind (r .bits) (probeCode g) c ∙ kind-of g) ∙ k in
@@ -249,4 +249,4 @@ probe-is q g a r e h =
 
 pub no-probe : (q : ProbeInput) (r : Row) → probeOf r ≡ noProbe → probeStands q r ≡ false
 unfolding probeStands probeOf noProbe
-no-probe q r e = rw (code-on (r .bits) 0 (ap (λ (p : Probe). p .code) e))
+no-probe q r e = rw (code-on (r .bits) 0 (ap (λ (p : ProbeWords). p .code) e))

@@ -11,15 +11,15 @@ use Rattle.style.specs.Style.{wordAt, styleAt}
 use Rattle.tree.specs.Tree.{Tree, Forest, node, none, more, mapT, mapF, onRoot}
 use Rattle.tree.specs.Table.{Entry, parseT}
 use Rattle.tree.proofs.Laws.{mapF-none, mapF-more, map-mapT, map-mapF}
-use Rattle.steps.specs.Width.{isLeaf, flowOf}
-use Rattle.steps.specs.Stack.{stepJ}
+use Rattle.style.specs.Flow.{isLeaf, flowOf}
+use Rattle.steps.specs.Stack.{questionTo}
 use Rattle.steps.specs.Row.{rowAt}
 use Rattle.steps.specs.Page.{Cell, Node, named, siteAt, cellAt, nodesIn, pageOf, cellsOf}
 use Rattle.steps.specs.Probe.{widthPass}
 use Rattle.steps.specs.Kept.{kept}
 use Rattle.steps.specs.Layout.{relaid}
-use Rattle.steps.specs.declared.Flow.{Flow}
-use Rattle.steps.specs.declared.Flow.the-variants.{Gone, Out, In}
+use Rattle.style.specs.declared.Flow.{Flow}
+use Rattle.style.specs.declared.Flow.the-variants.{Gone, Out, In}
 use Rattle.steps.specs.declared.LayoutInput.{LayoutInput}
 use Rattle.steps.specs.declared.Frame.{Frame}
 use Rattle.steps.proofs.Shape.{mute}
@@ -53,14 +53,14 @@ node-shape n ks q found h = ap (mapT mute) (top-kids (belowT (node n ks) q found
 marks-shape : (t : Tree Node) (f : Frame) → ((q : LayoutInput) → mapT mute (belowT t q zeroF) ≡ mapT mute t) → mapT mute (marksOf t f) ≡ mapT mute t
 marks-shape t f h = go (flowOf (styleT t)) refl
   where
-    in-shape : (b : Bool) → kept t (stepJ f (styleT t)) ≡ b → mapT mute (marksIn t f) ≡ mapT mute t
+    in-shape : (b : Bool) → kept t (questionTo f (styleT t)) ≡ b → mapT mute (marksIn t f) ≡ mapT mute t
     in-shape true e = ap (mapT mute) (marks-kept t f e) ∙ under-shape t
     in-shape false e = ap (mapT mute) (marks-laid t f e) ∙ h _
 
     go : (w : Flow) → flowOf (styleT t) ≡ w → mapT mute (marksOf t f) ≡ mapT mute t
     go Gone e = ap (mapT mute) (marks-at t f Gone e) ∙ map-mapT mute (λ (_ : Node). false) t
     go Out e = ap (mapT mute) (marks-at t f Out e) ∙ map-mapT mute (λ (_ : Node). false) t
-    go In e = ap (mapT mute) (marks-at t f In e) ∙ in-shape (kept t (stepJ f (styleT t))) refl
+    go In e = ap (mapT mute) (marks-at t f In e) ∙ in-shape (kept t (questionTo f (styleT t))) refl
 
 mutual
   shape-T : (t : Tree Node) (q : LayoutInput) (found : Float) → mapT mute (belowT t q found) ≡ mapT mute t

@@ -7,7 +7,7 @@ use lib.Ieee.{ofBits, toBits, binary32, add, sub, mul, div, lt, le, eq, neg}
 use Rattle.geometry.specs.Geometry.{zeroF, sumAxes, plus}
 use Rattle.limits.specs.Limits.{sameF, tooLarge}
 use Rattle.util.specs.Math.{larger, smaller, capped, floored, clamped}
-use Rattle.util.specs.Maybe.{unwrapOr, orZero, orElse, isSome, addOpt, subOpt, clampOpt, floorOpt, widthFrom, heightFrom, ratioFills, addSize}
+use Rattle.util.specs.Maybe.{unwrapOr, orZero, orElse, isSome, addOpt, subOpt, clampOpt, floorOpt, ratioWidth, ratioHeight, ratioFills, addSize}
 use Rattle.util.specs.declared.OptionF32.the-variants.{None, Some}
 use Rattle.length.specs.Length.{scaled, resolved, resolvedOrZero, isAuto, resolvedRect, resolvedSize}
 use Rattle.length.specs.Available.{availableLess, definite}
@@ -19,22 +19,23 @@ use Rattle.alignment.specs.Align.{alignShift}
 use Rattle.tree.specs.Tree.{Tree, Forest, node, none, more, countT, flatT, mapT, rootT, onRoot}
 use Rattle.tree.proofs.Laws.{map-mapT}
 use Rattle.tree.specs.Table.{from, parseF, parseT}
-use Rattle.steps.specs.Sizing.{heightBasis, boxSize, sizedBy, stepA, decided, knownAxis, stepB, filled, stepD, knownOf, barOf, gutter, insets, stepE}
-use Rattle.steps.specs.Width.{positioned, flowBy, flowOf, isLeaf, sideMargins, outerOf, outerWidth, wantBy, wantSized, wantIn, stepF, contentWidth, leafWidth}
-use Rattle.steps.specs.Edges.{stepH, clips, isNormal, newContext, isIn, plainBlock, adjoins, openBox, hollowBox, ownEndOf, framed, frameBy, frameOf}
-use Rattle.steps.specs.Stack.{innerWidth, startOf, negOpt, offsetX, relativeOffset, offsetBy, itemOf, askedWidth, askedHeight, childInput, stepJ, topMargins, bottomMargins, atTop, gapOf, freeOf, shareOf, placeX, placeY, placeOf, pastThrough, pastBox, stepped, lineOf, edgesOf, pastAside, pastHidden}
-use Rattle.steps.specs.Height.{extraOf, stepK, stepL, heldOpen, ownEnd, stepM, stepN, passedOut, outputOf, finished, leafOutput}
-use Rattle.steps.specs.Row.{isLaid, isOut, availableKind, probeCode, noProbe, probeNote, probeOf, withCode, noted, bare, noRow, hiddenRow, asideRow, laidRow, outputIn, putAt, lowered}
+use Rattle.steps.specs.Sizing.{heightBasis, boxSize, sizedBy, stepA, decided, knownAxis, stepB, filled, stepD, knownOf, barOf, gutter, insets, contentBasis}
+use Rattle.style.specs.Flow.{positioned, flowBy, flowOf, isLeaf, isIn}
+use Rattle.steps.specs.Width.{sideMargins, outerOf, outerWidth, wantBy, wantSized, wantIn, wantOf, contentWidth, leafWidth}
+use Rattle.steps.specs.Context.{clips, isNormal, newContext, plainBlock}
+use Rattle.steps.specs.Through.{openBox, hollowBox, stepN, passedOut, outputOf, finished, leafOutput}
+use Rattle.steps.specs.Edges.{basisAgain, adjoins, ownEndOf, stepI, frameBy, frameOf}
+use Rattle.steps.specs.Stack.{innerWidth, startOf, negOpt, offsetX, relativeOffset, offsetBy, itemOf, askedWidth, askedHeight, childInput, questionTo, topMargins, bottomMargins, atTop, gapOf, freeOf, shareOf, placeX, placeY, placeOf, pastThrough, pastBox, stepped, lineOf, edgesOf, pastAside, pastHidden}
+use Rattle.steps.specs.Height.{extraOf, stepK, stepL, heldOpen, stillOwnEnd, stepM}
+use Rattle.steps.specs.Row.{isLaid, isOut, availableKind, probeCode, noProbe, probeNote, probeOf, withCode, noted, bare, noRow, hiddenRow, asideRow, laidRow, outputIn, putAt, lowered, Row}
 use Rattle.steps.specs.Page.{Site, Cell, named, anyT, siteAt, cellAt, pageOf, cellsOf, blank, cleared, staying, probedAnew, edits}
 use Rattle.steps.specs.Probe as probe
-use Rattle.steps.specs.Kept.{finalStands, editedNode, kept, keptRow, laidBits, belowRow, zerosT, zerosF, fixT, keep}
+use Rattle.steps.specs.Kept.{finalStands, editedNode, kept, keptRow, laidBits, belowRow, zerosT, zerosF, fixT, keep, Laid}
 use Rattle.steps.specs.Layout.{lowerF, alignF, leafLaid, blockLaid, skip, aside, place, layT, askT, relaid, fresh}
 use Rattle.steps.specs.Results.{rowsOut, marksOut}
 use Rattle.steps.specs.declared.LayoutInput.{LayoutInput}
 use native.Mathlib.Omega.{arith}
 use Rattle.style.specs.declared.Style.{Style}
-use Rattle.steps.specs.Row.{Row}
-use Rattle.steps.specs.Kept.{Laid}
 use Rattle.laws.specs.Trees.{AllT, topT, kidsT, firstF, false-true}
 use Rattle.laws.specs.Pages.{Both, siteBy, wasSite, nowSite, oldOf, again, Honest, LeavesT}
 use Rattle.laws.specs.Below.{Two, page1, page2, belowOf, Agree, under, belowT, belowKept}
@@ -61,7 +62,7 @@ abbrev high : ℕ → Style
 high h = styleAt (1 ∷ 0 ∷ 0x5500004 ∷ 0x55 ∷ []) 0 (zeroF ∷ ofBits binary32 h ∷ []) 0
 
 abbrev asked : LayoutInput
-asked = record { known = record { width = Some (ofBits binary32 0x42c8_0000); height = None }; parent = Some (ofBits binary32 0x42c8_0000); available = MaxContent; start = false; end = false; nested = false }
+asked = record { known = record { width = Some (ofBits binary32 0x42c8_0000); height = None }; parent = Some (ofBits binary32 0x42c8_0000); available = MaxContent; collapseStart = false; collapseEnd = false; nested = false }
 
 -- one box, 10 high, then 20
 abbrev boxRow : Row
@@ -71,7 +72,7 @@ abbrev grown : Tree Both
 grown = node (record { node = 0; now = high 0x41a00000; was = high 0x41200000; old = boxRow; edit = true }) none
 
 box-rows : mapT oldOf grown ≡ fresh (mapT wasSite grown) asked .rows
-unfolding sumAxes plus sameF tooLarge larger smaller capped floored clamped unwrapOr orZero orElse isSome addOpt subOpt clampOpt floorOpt widthFrom heightFrom ratioFills addSize scaled resolved resolvedOrZero isAuto resolvedRect resolvedSize availableLess definite kindOf positionOf overflowOf overflowXY alignOf unitOf lengthOf ratioOf wordAt numberAt lengthAt sizeAt rectAt measureAt styleAt noMargins setOf joined joinedWith sumOf alignShift countT flatT mapT rootT onRoot from parseF parseT heightBasis boxSize sizedBy stepA decided knownAxis stepB filled stepD knownOf barOf gutter insets stepE positioned flowBy flowOf isLeaf sideMargins outerOf outerWidth wantBy wantSized wantIn stepF contentWidth leafWidth stepH clips isNormal newContext isIn plainBlock adjoins openBox hollowBox ownEndOf framed frameBy frameOf innerWidth startOf negOpt offsetX relativeOffset offsetBy itemOf askedWidth askedHeight childInput stepJ topMargins bottomMargins atTop gapOf freeOf shareOf placeX placeY placeOf pastThrough pastBox stepped lineOf edgesOf pastAside pastHidden extraOf stepK stepL heldOpen ownEnd stepM stepN passedOut outputOf finished leafOutput isLaid isOut availableKind probeCode noProbe probeNote probeOf withCode noted bare noRow hiddenRow asideRow laidRow outputIn putAt lowered named anyT siteAt cellAt pageOf cellsOf blank cleared staying probedAnew edits finalStands editedNode kept keptRow laidBits belowRow zerosT zerosF fixT keep lowerF alignF leafLaid blockLaid skip aside place layT askT relaid fresh rowsOut marksOut probe.probeStands probe.answered probe.probeKnown probe.spaceIn probe.widthFrom probe.asked probe.blockProbe probe.stay probe.widen probe.probeT probe.askP probe.passBy probe.widthPass ofBits toBits add sub mul div lt le eq neg
+unfolding sumAxes plus sameF tooLarge larger smaller capped floored clamped unwrapOr orZero orElse isSome addOpt subOpt clampOpt floorOpt ratioWidth ratioHeight ratioFills addSize scaled resolved resolvedOrZero isAuto resolvedRect resolvedSize availableLess definite kindOf positionOf overflowOf overflowXY alignOf unitOf lengthOf ratioOf wordAt numberAt lengthAt sizeAt rectAt measureAt styleAt noMargins setOf joined joinedWith sumOf alignShift countT flatT mapT rootT onRoot from parseF parseT heightBasis boxSize sizedBy stepA decided knownAxis stepB filled stepD knownOf barOf gutter insets contentBasis positioned flowBy flowOf isLeaf sideMargins outerOf outerWidth wantBy wantSized wantIn wantOf contentWidth leafWidth basisAgain clips isNormal newContext isIn plainBlock adjoins openBox hollowBox ownEndOf stepI frameBy frameOf innerWidth startOf negOpt offsetX relativeOffset offsetBy itemOf askedWidth askedHeight childInput questionTo topMargins bottomMargins atTop gapOf freeOf shareOf placeX placeY placeOf pastThrough pastBox stepped lineOf edgesOf pastAside pastHidden extraOf stepK stepL heldOpen stillOwnEnd stepM stepN passedOut outputOf finished leafOutput isLaid isOut availableKind probeCode noProbe probeNote probeOf withCode noted bare noRow hiddenRow asideRow laidRow outputIn putAt lowered named anyT siteAt cellAt pageOf cellsOf blank cleared staying probedAnew edits finalStands editedNode kept keptRow laidBits belowRow zerosT zerosF fixT keep lowerF alignF leafLaid blockLaid skip aside place layT askT relaid fresh rowsOut marksOut probe.probeStands probe.answered probe.probeKnown probe.spaceIn probe.foundWidth probe.asked probe.blockProbe probe.stay probe.widen probe.probeT probe.askP probe.passBy probe.widthPass ofBits toBits add sub mul div lt le eq neg
 box-rows = refl
 
 box-honest : AllT Honest grown
@@ -87,40 +88,23 @@ abbrev pub doesNothing : Relayout
 doesNothing c q = record { out = outputIn (rootT c .old); rows = mapT (λ (x : Cell). x .old) c }
 
 pub doing-nothing-fails : FirstHalf doesNothing → ⊥
-unfolding sumAxes plus sameF tooLarge larger smaller capped floored clamped unwrapOr orZero orElse isSome addOpt subOpt clampOpt floorOpt widthFrom heightFrom ratioFills addSize scaled resolved resolvedOrZero isAuto resolvedRect resolvedSize availableLess definite kindOf positionOf overflowOf overflowXY alignOf unitOf lengthOf ratioOf wordAt numberAt lengthAt sizeAt rectAt measureAt styleAt noMargins setOf joined joinedWith sumOf alignShift countT flatT mapT rootT onRoot from parseF parseT heightBasis boxSize sizedBy stepA decided knownAxis stepB filled stepD knownOf barOf gutter insets stepE positioned flowBy flowOf isLeaf sideMargins outerOf outerWidth wantBy wantSized wantIn stepF contentWidth leafWidth stepH clips isNormal newContext isIn plainBlock adjoins openBox hollowBox ownEndOf framed frameBy frameOf innerWidth startOf negOpt offsetX relativeOffset offsetBy itemOf askedWidth askedHeight childInput stepJ topMargins bottomMargins atTop gapOf freeOf shareOf placeX placeY placeOf pastThrough pastBox stepped lineOf edgesOf pastAside pastHidden extraOf stepK stepL heldOpen ownEnd stepM stepN passedOut outputOf finished leafOutput isLaid isOut availableKind probeCode noProbe probeNote probeOf withCode noted bare noRow hiddenRow asideRow laidRow outputIn putAt lowered named anyT siteAt cellAt pageOf cellsOf blank cleared staying probedAnew edits finalStands editedNode kept keptRow laidBits belowRow zerosT zerosF fixT keep lowerF alignF leafLaid blockLaid skip aside place layT askT relaid fresh rowsOut marksOut probe.probeStands probe.answered probe.probeKnown probe.spaceIn probe.widthFrom probe.asked probe.blockProbe probe.stay probe.widen probe.probeT probe.askP probe.passBy probe.widthPass ofBits toBits add sub mul div lt le eq neg
+unfolding sumAxes plus sameF tooLarge larger smaller capped floored clamped unwrapOr orZero orElse isSome addOpt subOpt clampOpt floorOpt ratioWidth ratioHeight ratioFills addSize scaled resolved resolvedOrZero isAuto resolvedRect resolvedSize availableLess definite kindOf positionOf overflowOf overflowXY alignOf unitOf lengthOf ratioOf wordAt numberAt lengthAt sizeAt rectAt measureAt styleAt noMargins setOf joined joinedWith sumOf alignShift countT flatT mapT rootT onRoot from parseF parseT heightBasis boxSize sizedBy stepA decided knownAxis stepB filled stepD knownOf barOf gutter insets contentBasis positioned flowBy flowOf isLeaf sideMargins outerOf outerWidth wantBy wantSized wantIn wantOf contentWidth leafWidth basisAgain clips isNormal newContext isIn plainBlock adjoins openBox hollowBox ownEndOf stepI frameBy frameOf innerWidth startOf negOpt offsetX relativeOffset offsetBy itemOf askedWidth askedHeight childInput questionTo topMargins bottomMargins atTop gapOf freeOf shareOf placeX placeY placeOf pastThrough pastBox stepped lineOf edgesOf pastAside pastHidden extraOf stepK stepL heldOpen stillOwnEnd stepM stepN passedOut outputOf finished leafOutput isLaid isOut availableKind probeCode noProbe probeNote probeOf withCode noted bare noRow hiddenRow asideRow laidRow outputIn putAt lowered named anyT siteAt cellAt pageOf cellsOf blank cleared staying probedAnew edits finalStands editedNode kept keptRow laidBits belowRow zerosT zerosF fixT keep lowerF alignF leafLaid blockLaid skip aside place layT askT relaid fresh rowsOut marksOut probe.probeStands probe.answered probe.probeKnown probe.spaceIn probe.foundWidth probe.asked probe.blockProbe probe.stay probe.widen probe.probeT probe.askP probe.passBy probe.widthPass ofBits toBits add sub mul div lt le eq neg
 doing-nothing-fails h =
-    let z : _≡_ {A = ℕ} 0x41200000 0x41a00000 = ap (λ (l : Laid). toBits binary32 (rootT (l .rows) .h)) (h grown asked asked box-rows box-honest box-leaves) in
+    let z : _≡_ {A = ℕ} 0x41200000 0x41a00000 = ap (λ (l : Laid). toBits binary32 (rootT (l .rows) .answer .size .height)) (h grown asked asked box-rows box-honest box-leaves) in
     omega arith
 
 -- One that is right the first time only: it has to leave a sign in the rows, and the rows are promised.
 abbrev signed : Row → Row
 signed r =
-    record {
-      x = r .x;
-      y = r .y;
-      w = r .w;
-      h = r .h;
-      top = r .top;
-      bottom = r .bottom;
-      knownW = r .knownW;
-      knownH = r .knownH;
-      parent = r .parent;
-      probeW = r .probeW;
-      probeH = r .probeH;
-      answer = r .answer;
-      spare = r .spare;
-      spare2 = ofBits binary32 0x3f800000;
-      order = r .order;
-      bits = r .bits;
-    }
+    record { place = r .place; answer = r .answer; asked = r .asked; probe = r .probe; spare = record { first = r .spare .first; second = ofBits binary32 0x3f800000 }; order = r .order; bits = r .bits }
 
 abbrev pub once : Relayout
 once c q = record { out = relaid c q .out; rows = onRoot signed (relaid c q .rows) }
 
 pub once-fails : FirstHalf once → ⊥
-unfolding sumAxes plus sameF tooLarge larger smaller capped floored clamped unwrapOr orZero orElse isSome addOpt subOpt clampOpt floorOpt widthFrom heightFrom ratioFills addSize scaled resolved resolvedOrZero isAuto resolvedRect resolvedSize availableLess definite kindOf positionOf overflowOf overflowXY alignOf unitOf lengthOf ratioOf wordAt numberAt lengthAt sizeAt rectAt measureAt styleAt noMargins setOf joined joinedWith sumOf alignShift countT flatT mapT rootT onRoot from parseF parseT heightBasis boxSize sizedBy stepA decided knownAxis stepB filled stepD knownOf barOf gutter insets stepE positioned flowBy flowOf isLeaf sideMargins outerOf outerWidth wantBy wantSized wantIn stepF contentWidth leafWidth stepH clips isNormal newContext isIn plainBlock adjoins openBox hollowBox ownEndOf framed frameBy frameOf innerWidth startOf negOpt offsetX relativeOffset offsetBy itemOf askedWidth askedHeight childInput stepJ topMargins bottomMargins atTop gapOf freeOf shareOf placeX placeY placeOf pastThrough pastBox stepped lineOf edgesOf pastAside pastHidden extraOf stepK stepL heldOpen ownEnd stepM stepN passedOut outputOf finished leafOutput isLaid isOut availableKind probeCode noProbe probeNote probeOf withCode noted bare noRow hiddenRow asideRow laidRow outputIn putAt lowered named anyT siteAt cellAt pageOf cellsOf blank cleared staying probedAnew edits finalStands editedNode kept keptRow laidBits belowRow zerosT zerosF fixT keep lowerF alignF leafLaid blockLaid skip aside place layT askT relaid fresh rowsOut marksOut probe.probeStands probe.answered probe.probeKnown probe.spaceIn probe.widthFrom probe.asked probe.blockProbe probe.stay probe.widen probe.probeT probe.askP probe.passBy probe.widthPass ofBits toBits add sub mul div lt le eq neg
+unfolding sumAxes plus sameF tooLarge larger smaller capped floored clamped unwrapOr orZero orElse isSome addOpt subOpt clampOpt floorOpt ratioWidth ratioHeight ratioFills addSize scaled resolved resolvedOrZero isAuto resolvedRect resolvedSize availableLess definite kindOf positionOf overflowOf overflowXY alignOf unitOf lengthOf ratioOf wordAt numberAt lengthAt sizeAt rectAt measureAt styleAt noMargins setOf joined joinedWith sumOf alignShift countT flatT mapT rootT onRoot from parseF parseT heightBasis boxSize sizedBy stepA decided knownAxis stepB filled stepD knownOf barOf gutter insets contentBasis positioned flowBy flowOf isLeaf sideMargins outerOf outerWidth wantBy wantSized wantIn wantOf contentWidth leafWidth basisAgain clips isNormal newContext isIn plainBlock adjoins openBox hollowBox ownEndOf stepI frameBy frameOf innerWidth startOf negOpt offsetX relativeOffset offsetBy itemOf askedWidth askedHeight childInput questionTo topMargins bottomMargins atTop gapOf freeOf shareOf placeX placeY placeOf pastThrough pastBox stepped lineOf edgesOf pastAside pastHidden extraOf stepK stepL heldOpen stillOwnEnd stepM stepN passedOut outputOf finished leafOutput isLaid isOut availableKind probeCode noProbe probeNote probeOf withCode noted bare noRow hiddenRow asideRow laidRow outputIn putAt lowered named anyT siteAt cellAt pageOf cellsOf blank cleared staying probedAnew edits finalStands editedNode kept keptRow laidBits belowRow zerosT zerosF fixT keep lowerF alignF leafLaid blockLaid skip aside place layT askT relaid fresh rowsOut marksOut probe.probeStands probe.answered probe.probeKnown probe.spaceIn probe.foundWidth probe.asked probe.blockProbe probe.stay probe.widen probe.probeT probe.askP probe.passBy probe.widthPass ofBits toBits add sub mul div lt le eq neg
 once-fails h =
-    let z : _≡_ {A = ℕ} 0x3f800000 0 = ap (λ (l : Laid). toBits binary32 (rootT (l .rows) .spare2)) (h grown asked asked box-rows box-honest box-leaves) in
+    let z : _≡_ {A = ℕ} 0x3f800000 0 = ap (λ (l : Laid). toBits binary32 (rootT (l .rows) .spare .second)) (h grown asked asked box-rows box-honest box-leaves) in
     omega arith
 
 -- One that lays all out afresh has the first half, and not the second.
@@ -143,7 +127,7 @@ abbrev pages : Tree Two
 pages = twin wrap wrap noRow false (more (twin wrap wrap keptOld false (more (twin (high 0x40a00000) (high 0x40c00000) noRow true none) none)) none)
 
 pages-below : mapT belowOf pages ≡ belowKept (mapT page1 pages) asked
-unfolding sumAxes plus sameF tooLarge larger smaller capped floored clamped unwrapOr orZero orElse isSome addOpt subOpt clampOpt floorOpt widthFrom heightFrom ratioFills addSize scaled resolved resolvedOrZero isAuto resolvedRect resolvedSize availableLess definite kindOf positionOf overflowOf overflowXY alignOf unitOf lengthOf ratioOf wordAt numberAt lengthAt sizeAt rectAt measureAt styleAt noMargins setOf joined joinedWith sumOf alignShift countT flatT mapT rootT onRoot from parseF parseT heightBasis boxSize sizedBy stepA decided knownAxis stepB filled stepD knownOf barOf gutter insets stepE positioned flowBy flowOf isLeaf sideMargins outerOf outerWidth wantBy wantSized wantIn stepF contentWidth leafWidth stepH clips isNormal newContext isIn plainBlock adjoins openBox hollowBox ownEndOf framed frameBy frameOf innerWidth startOf negOpt offsetX relativeOffset offsetBy itemOf askedWidth askedHeight childInput stepJ topMargins bottomMargins atTop gapOf freeOf shareOf placeX placeY placeOf pastThrough pastBox stepped lineOf edgesOf pastAside pastHidden extraOf stepK stepL heldOpen ownEnd stepM stepN passedOut outputOf finished leafOutput isLaid isOut availableKind probeCode noProbe probeNote probeOf withCode noted bare noRow hiddenRow asideRow laidRow outputIn putAt lowered named anyT siteAt cellAt pageOf cellsOf blank cleared staying probedAnew edits finalStands editedNode kept keptRow laidBits belowRow zerosT zerosF fixT keep lowerF alignF leafLaid blockLaid skip aside place layT askT relaid fresh rowsOut marksOut probe.probeStands probe.answered probe.probeKnown probe.spaceIn probe.widthFrom probe.asked probe.blockProbe probe.stay probe.widen probe.probeT probe.askP probe.passBy probe.widthPass ofBits toBits add sub mul div lt le eq neg under belowT belowKept
+unfolding sumAxes plus sameF tooLarge larger smaller capped floored clamped unwrapOr orZero orElse isSome addOpt subOpt clampOpt floorOpt ratioWidth ratioHeight ratioFills addSize scaled resolved resolvedOrZero isAuto resolvedRect resolvedSize availableLess definite kindOf positionOf overflowOf overflowXY alignOf unitOf lengthOf ratioOf wordAt numberAt lengthAt sizeAt rectAt measureAt styleAt noMargins setOf joined joinedWith sumOf alignShift countT flatT mapT rootT onRoot from parseF parseT heightBasis boxSize sizedBy stepA decided knownAxis stepB filled stepD knownOf barOf gutter insets contentBasis positioned flowBy flowOf isLeaf sideMargins outerOf outerWidth wantBy wantSized wantIn wantOf contentWidth leafWidth basisAgain clips isNormal newContext isIn plainBlock adjoins openBox hollowBox ownEndOf stepI frameBy frameOf innerWidth startOf negOpt offsetX relativeOffset offsetBy itemOf askedWidth askedHeight childInput questionTo topMargins bottomMargins atTop gapOf freeOf shareOf placeX placeY placeOf pastThrough pastBox stepped lineOf edgesOf pastAside pastHidden extraOf stepK stepL heldOpen stillOwnEnd stepM stepN passedOut outputOf finished leafOutput isLaid isOut availableKind probeCode noProbe probeNote probeOf withCode noted bare noRow hiddenRow asideRow laidRow outputIn putAt lowered named anyT siteAt cellAt pageOf cellsOf blank cleared staying probedAnew edits finalStands editedNode kept keptRow laidBits belowRow zerosT zerosF fixT keep lowerF alignF leafLaid blockLaid skip aside place layT askT relaid fresh rowsOut marksOut probe.probeStands probe.answered probe.probeKnown probe.spaceIn probe.foundWidth probe.asked probe.blockProbe probe.stay probe.widen probe.probeT probe.askP probe.passBy probe.widthPass ofBits toBits add sub mul div lt le eq neg under belowT belowKept
 pages-below = refl
 
 pages-agree : AllT Agree pages
@@ -154,9 +138,9 @@ pages-agree = (
 )
 
 pub laying-afresh-fails : SecondHalf laysAfresh → ⊥
-unfolding sumAxes plus sameF tooLarge larger smaller capped floored clamped unwrapOr orZero orElse isSome addOpt subOpt clampOpt floorOpt widthFrom heightFrom ratioFills addSize scaled resolved resolvedOrZero isAuto resolvedRect resolvedSize availableLess definite kindOf positionOf overflowOf overflowXY alignOf unitOf lengthOf ratioOf wordAt numberAt lengthAt sizeAt rectAt measureAt styleAt noMargins setOf joined joinedWith sumOf alignShift countT flatT mapT rootT onRoot from parseF parseT heightBasis boxSize sizedBy stepA decided knownAxis stepB filled stepD knownOf barOf gutter insets stepE positioned flowBy flowOf isLeaf sideMargins outerOf outerWidth wantBy wantSized wantIn stepF contentWidth leafWidth stepH clips isNormal newContext isIn plainBlock adjoins openBox hollowBox ownEndOf framed frameBy frameOf innerWidth startOf negOpt offsetX relativeOffset offsetBy itemOf askedWidth askedHeight childInput stepJ topMargins bottomMargins atTop gapOf freeOf shareOf placeX placeY placeOf pastThrough pastBox stepped lineOf edgesOf pastAside pastHidden extraOf stepK stepL heldOpen ownEnd stepM stepN passedOut outputOf finished leafOutput isLaid isOut availableKind probeCode noProbe probeNote probeOf withCode noted bare noRow hiddenRow asideRow laidRow outputIn putAt lowered named anyT siteAt cellAt pageOf cellsOf blank cleared staying probedAnew edits finalStands editedNode kept keptRow laidBits belowRow zerosT zerosF fixT keep lowerF alignF leafLaid blockLaid skip aside place layT askT relaid fresh rowsOut marksOut probe.probeStands probe.answered probe.probeKnown probe.spaceIn probe.widthFrom probe.asked probe.blockProbe probe.stay probe.widen probe.probeT probe.askP probe.passBy probe.widthPass ofBits toBits add sub mul div lt le eq neg
+unfolding sumAxes plus sameF tooLarge larger smaller capped floored clamped unwrapOr orZero orElse isSome addOpt subOpt clampOpt floorOpt ratioWidth ratioHeight ratioFills addSize scaled resolved resolvedOrZero isAuto resolvedRect resolvedSize availableLess definite kindOf positionOf overflowOf overflowXY alignOf unitOf lengthOf ratioOf wordAt numberAt lengthAt sizeAt rectAt measureAt styleAt noMargins setOf joined joinedWith sumOf alignShift countT flatT mapT rootT onRoot from parseF parseT heightBasis boxSize sizedBy stepA decided knownAxis stepB filled stepD knownOf barOf gutter insets contentBasis positioned flowBy flowOf isLeaf sideMargins outerOf outerWidth wantBy wantSized wantIn wantOf contentWidth leafWidth basisAgain clips isNormal newContext isIn plainBlock adjoins openBox hollowBox ownEndOf stepI frameBy frameOf innerWidth startOf negOpt offsetX relativeOffset offsetBy itemOf askedWidth askedHeight childInput questionTo topMargins bottomMargins atTop gapOf freeOf shareOf placeX placeY placeOf pastThrough pastBox stepped lineOf edgesOf pastAside pastHidden extraOf stepK stepL heldOpen stillOwnEnd stepM stepN passedOut outputOf finished leafOutput isLaid isOut availableKind probeCode noProbe probeNote probeOf withCode noted bare noRow hiddenRow asideRow laidRow outputIn putAt lowered named anyT siteAt cellAt pageOf cellsOf blank cleared staying probedAnew edits finalStands editedNode kept keptRow laidBits belowRow zerosT zerosF fixT keep lowerF alignF leafLaid blockLaid skip aside place layT askT relaid fresh rowsOut marksOut probe.probeStands probe.answered probe.probeKnown probe.spaceIn probe.foundWidth probe.asked probe.blockProbe probe.stay probe.widen probe.probeT probe.askP probe.passBy probe.widthPass ofBits toBits add sub mul div lt le eq neg
 laying-afresh-fails h =
-    let z : _≡_ {A = ℕ} 0x40a00000 0x40c00000 = ap (λ (l : Laid). toBits binary32 (rootT (l .rows) .h)) (h pages asked pages-below pages-agree) in
+    let z : _≡_ {A = ℕ} 0x40a00000 0x40c00000 = ap (λ (l : Laid). toBits binary32 (rootT (l .rows) .answer .size .height)) (h pages asked pages-below pages-agree) in
     omega arith
 
 -- What is supposed is needed. Below a node that is laid out styles are read: without the marks the second half fails.
@@ -171,9 +155,9 @@ unkept-agree = (
 )
 
 pub below-laid-is-read : ((t : Tree Two) (q : LayoutInput) → AllT Agree t → relaid (mapT page1 t) q ≡ relaid (mapT page2 t) q) → ⊥
-unfolding sumAxes plus sameF tooLarge larger smaller capped floored clamped unwrapOr orZero orElse isSome addOpt subOpt clampOpt floorOpt widthFrom heightFrom ratioFills addSize scaled resolved resolvedOrZero isAuto resolvedRect resolvedSize availableLess definite kindOf positionOf overflowOf overflowXY alignOf unitOf lengthOf ratioOf wordAt numberAt lengthAt sizeAt rectAt measureAt styleAt noMargins setOf joined joinedWith sumOf alignShift countT flatT mapT rootT onRoot from parseF parseT heightBasis boxSize sizedBy stepA decided knownAxis stepB filled stepD knownOf barOf gutter insets stepE positioned flowBy flowOf isLeaf sideMargins outerOf outerWidth wantBy wantSized wantIn stepF contentWidth leafWidth stepH clips isNormal newContext isIn plainBlock adjoins openBox hollowBox ownEndOf framed frameBy frameOf innerWidth startOf negOpt offsetX relativeOffset offsetBy itemOf askedWidth askedHeight childInput stepJ topMargins bottomMargins atTop gapOf freeOf shareOf placeX placeY placeOf pastThrough pastBox stepped lineOf edgesOf pastAside pastHidden extraOf stepK stepL heldOpen ownEnd stepM stepN passedOut outputOf finished leafOutput isLaid isOut availableKind probeCode noProbe probeNote probeOf withCode noted bare noRow hiddenRow asideRow laidRow outputIn putAt lowered named anyT siteAt cellAt pageOf cellsOf blank cleared staying probedAnew edits finalStands editedNode kept keptRow laidBits belowRow zerosT zerosF fixT keep lowerF alignF leafLaid blockLaid skip aside place layT askT relaid fresh rowsOut marksOut probe.probeStands probe.answered probe.probeKnown probe.spaceIn probe.widthFrom probe.asked probe.blockProbe probe.stay probe.widen probe.probeT probe.askP probe.passBy probe.widthPass ofBits toBits add sub mul div lt le eq neg
+unfolding sumAxes plus sameF tooLarge larger smaller capped floored clamped unwrapOr orZero orElse isSome addOpt subOpt clampOpt floorOpt ratioWidth ratioHeight ratioFills addSize scaled resolved resolvedOrZero isAuto resolvedRect resolvedSize availableLess definite kindOf positionOf overflowOf overflowXY alignOf unitOf lengthOf ratioOf wordAt numberAt lengthAt sizeAt rectAt measureAt styleAt noMargins setOf joined joinedWith sumOf alignShift countT flatT mapT rootT onRoot from parseF parseT heightBasis boxSize sizedBy stepA decided knownAxis stepB filled stepD knownOf barOf gutter insets contentBasis positioned flowBy flowOf isLeaf sideMargins outerOf outerWidth wantBy wantSized wantIn wantOf contentWidth leafWidth basisAgain clips isNormal newContext isIn plainBlock adjoins openBox hollowBox ownEndOf stepI frameBy frameOf innerWidth startOf negOpt offsetX relativeOffset offsetBy itemOf askedWidth askedHeight childInput questionTo topMargins bottomMargins atTop gapOf freeOf shareOf placeX placeY placeOf pastThrough pastBox stepped lineOf edgesOf pastAside pastHidden extraOf stepK stepL heldOpen stillOwnEnd stepM stepN passedOut outputOf finished leafOutput isLaid isOut availableKind probeCode noProbe probeNote probeOf withCode noted bare noRow hiddenRow asideRow laidRow outputIn putAt lowered named anyT siteAt cellAt pageOf cellsOf blank cleared staying probedAnew edits finalStands editedNode kept keptRow laidBits belowRow zerosT zerosF fixT keep lowerF alignF leafLaid blockLaid skip aside place layT askT relaid fresh rowsOut marksOut probe.probeStands probe.answered probe.probeKnown probe.spaceIn probe.foundWidth probe.asked probe.blockProbe probe.stay probe.widen probe.probeT probe.askP probe.passBy probe.widthPass ofBits toBits add sub mul div lt le eq neg
 below-laid-is-read h =
-    let z : _≡_ {A = ℕ} 0x40a00000 0x40c00000 = ap (λ (l : Laid). toBits binary32 (rootT (l .rows) .h)) (h unkept asked unkept-agree) in
+    let z : _≡_ {A = ℕ} 0x40a00000 0x40c00000 = ap (λ (l : Laid). toBits binary32 (rootT (l .rows) .answer .size .height)) (h unkept asked unkept-agree) in
     omega arith
 
 -- A change below a block that the list does not name is missed: without an honest list the first half fails.
@@ -195,7 +179,7 @@ unnamed =
     none)
 
 unnamed-rows : mapT oldOf unnamed ≡ fresh (mapT wasSite unnamed) asked .rows
-unfolding sumAxes plus sameF tooLarge larger smaller capped floored clamped unwrapOr orZero orElse isSome addOpt subOpt clampOpt floorOpt widthFrom heightFrom ratioFills addSize scaled resolved resolvedOrZero isAuto resolvedRect resolvedSize availableLess definite kindOf positionOf overflowOf overflowXY alignOf unitOf lengthOf ratioOf wordAt numberAt lengthAt sizeAt rectAt measureAt styleAt noMargins setOf joined joinedWith sumOf alignShift countT flatT mapT rootT onRoot from parseF parseT heightBasis boxSize sizedBy stepA decided knownAxis stepB filled stepD knownOf barOf gutter insets stepE positioned flowBy flowOf isLeaf sideMargins outerOf outerWidth wantBy wantSized wantIn stepF contentWidth leafWidth stepH clips isNormal newContext isIn plainBlock adjoins openBox hollowBox ownEndOf framed frameBy frameOf innerWidth startOf negOpt offsetX relativeOffset offsetBy itemOf askedWidth askedHeight childInput stepJ topMargins bottomMargins atTop gapOf freeOf shareOf placeX placeY placeOf pastThrough pastBox stepped lineOf edgesOf pastAside pastHidden extraOf stepK stepL heldOpen ownEnd stepM stepN passedOut outputOf finished leafOutput isLaid isOut availableKind probeCode noProbe probeNote probeOf withCode noted bare noRow hiddenRow asideRow laidRow outputIn putAt lowered named anyT siteAt cellAt pageOf cellsOf blank cleared staying probedAnew edits finalStands editedNode kept keptRow laidBits belowRow zerosT zerosF fixT keep lowerF alignF leafLaid blockLaid skip aside place layT askT relaid fresh rowsOut marksOut probe.probeStands probe.answered probe.probeKnown probe.spaceIn probe.widthFrom probe.asked probe.blockProbe probe.stay probe.widen probe.probeT probe.askP probe.passBy probe.widthPass ofBits toBits add sub mul div lt le eq neg
+unfolding sumAxes plus sameF tooLarge larger smaller capped floored clamped unwrapOr orZero orElse isSome addOpt subOpt clampOpt floorOpt ratioWidth ratioHeight ratioFills addSize scaled resolved resolvedOrZero isAuto resolvedRect resolvedSize availableLess definite kindOf positionOf overflowOf overflowXY alignOf unitOf lengthOf ratioOf wordAt numberAt lengthAt sizeAt rectAt measureAt styleAt noMargins setOf joined joinedWith sumOf alignShift countT flatT mapT rootT onRoot from parseF parseT heightBasis boxSize sizedBy stepA decided knownAxis stepB filled stepD knownOf barOf gutter insets contentBasis positioned flowBy flowOf isLeaf sideMargins outerOf outerWidth wantBy wantSized wantIn wantOf contentWidth leafWidth basisAgain clips isNormal newContext isIn plainBlock adjoins openBox hollowBox ownEndOf stepI frameBy frameOf innerWidth startOf negOpt offsetX relativeOffset offsetBy itemOf askedWidth askedHeight childInput questionTo topMargins bottomMargins atTop gapOf freeOf shareOf placeX placeY placeOf pastThrough pastBox stepped lineOf edgesOf pastAside pastHidden extraOf stepK stepL heldOpen stillOwnEnd stepM stepN passedOut outputOf finished leafOutput isLaid isOut availableKind probeCode noProbe probeNote probeOf withCode noted bare noRow hiddenRow asideRow laidRow outputIn putAt lowered named anyT siteAt cellAt pageOf cellsOf blank cleared staying probedAnew edits finalStands editedNode kept keptRow laidBits belowRow zerosT zerosF fixT keep lowerF alignF leafLaid blockLaid skip aside place layT askT relaid fresh rowsOut marksOut probe.probeStands probe.answered probe.probeKnown probe.spaceIn probe.foundWidth probe.asked probe.blockProbe probe.stay probe.widen probe.probeT probe.askP probe.passBy probe.widthPass ofBits toBits add sub mul div lt le eq neg
 unnamed-rows = refl
 
 unnamed-leaves : LeavesT (mapT nowSite unnamed)
@@ -203,9 +187,9 @@ unfolding LeavesT mapT styleAt wordAt kindOf isLeaf
 unnamed-leaves = ((λ e. false-true false refl e), (((λ e. false-true false refl e), (((λ _. refl), tt), tt)), tt))
 
 pub unnamed-change-is-missed : ((t : Tree Both) (q p : LayoutInput) → mapT oldOf t ≡ fresh (mapT wasSite t) q .rows → LeavesT (mapT nowSite t) → relaid (mapT again t) p ≡ fresh (mapT nowSite t) p) → ⊥
-unfolding sumAxes plus sameF tooLarge larger smaller capped floored clamped unwrapOr orZero orElse isSome addOpt subOpt clampOpt floorOpt widthFrom heightFrom ratioFills addSize scaled resolved resolvedOrZero isAuto resolvedRect resolvedSize availableLess definite kindOf positionOf overflowOf overflowXY alignOf unitOf lengthOf ratioOf wordAt numberAt lengthAt sizeAt rectAt measureAt styleAt noMargins setOf joined joinedWith sumOf alignShift countT flatT mapT rootT onRoot from parseF parseT heightBasis boxSize sizedBy stepA decided knownAxis stepB filled stepD knownOf barOf gutter insets stepE positioned flowBy flowOf isLeaf sideMargins outerOf outerWidth wantBy wantSized wantIn stepF contentWidth leafWidth stepH clips isNormal newContext isIn plainBlock adjoins openBox hollowBox ownEndOf framed frameBy frameOf innerWidth startOf negOpt offsetX relativeOffset offsetBy itemOf askedWidth askedHeight childInput stepJ topMargins bottomMargins atTop gapOf freeOf shareOf placeX placeY placeOf pastThrough pastBox stepped lineOf edgesOf pastAside pastHidden extraOf stepK stepL heldOpen ownEnd stepM stepN passedOut outputOf finished leafOutput isLaid isOut availableKind probeCode noProbe probeNote probeOf withCode noted bare noRow hiddenRow asideRow laidRow outputIn putAt lowered named anyT siteAt cellAt pageOf cellsOf blank cleared staying probedAnew edits finalStands editedNode kept keptRow laidBits belowRow zerosT zerosF fixT keep lowerF alignF leafLaid blockLaid skip aside place layT askT relaid fresh rowsOut marksOut probe.probeStands probe.answered probe.probeKnown probe.spaceIn probe.widthFrom probe.asked probe.blockProbe probe.stay probe.widen probe.probeT probe.askP probe.passBy probe.widthPass ofBits toBits add sub mul div lt le eq neg
+unfolding sumAxes plus sameF tooLarge larger smaller capped floored clamped unwrapOr orZero orElse isSome addOpt subOpt clampOpt floorOpt ratioWidth ratioHeight ratioFills addSize scaled resolved resolvedOrZero isAuto resolvedRect resolvedSize availableLess definite kindOf positionOf overflowOf overflowXY alignOf unitOf lengthOf ratioOf wordAt numberAt lengthAt sizeAt rectAt measureAt styleAt noMargins setOf joined joinedWith sumOf alignShift countT flatT mapT rootT onRoot from parseF parseT heightBasis boxSize sizedBy stepA decided knownAxis stepB filled stepD knownOf barOf gutter insets contentBasis positioned flowBy flowOf isLeaf sideMargins outerOf outerWidth wantBy wantSized wantIn wantOf contentWidth leafWidth basisAgain clips isNormal newContext isIn plainBlock adjoins openBox hollowBox ownEndOf stepI frameBy frameOf innerWidth startOf negOpt offsetX relativeOffset offsetBy itemOf askedWidth askedHeight childInput questionTo topMargins bottomMargins atTop gapOf freeOf shareOf placeX placeY placeOf pastThrough pastBox stepped lineOf edgesOf pastAside pastHidden extraOf stepK stepL heldOpen stillOwnEnd stepM stepN passedOut outputOf finished leafOutput isLaid isOut availableKind probeCode noProbe probeNote probeOf withCode noted bare noRow hiddenRow asideRow laidRow outputIn putAt lowered named anyT siteAt cellAt pageOf cellsOf blank cleared staying probedAnew edits finalStands editedNode kept keptRow laidBits belowRow zerosT zerosF fixT keep lowerF alignF leafLaid blockLaid skip aside place layT askT relaid fresh rowsOut marksOut probe.probeStands probe.answered probe.probeKnown probe.spaceIn probe.foundWidth probe.asked probe.blockProbe probe.stay probe.widen probe.probeT probe.askP probe.passBy probe.widthPass ofBits toBits add sub mul div lt le eq neg
 unnamed-change-is-missed h =
-    let z : _≡_ {A = ℕ} 0x40a00000 0x40c00000 = ap (λ (l : Laid). toBits binary32 (rootT (l .rows) .h)) (h unnamed asked asked unnamed-rows unnamed-leaves) in
+    let z : _≡_ {A = ℕ} 0x40a00000 0x40c00000 = ap (λ (l : Laid). toBits binary32 (rootT (l .rows) .answer .size .height)) (h unnamed asked asked unnamed-rows unnamed-leaves) in
     omega arith
 
 -- The relayout of the definition has both.

@@ -8,14 +8,14 @@ use Rattle.geometry.specs.declared.Point.{Point}
 use Rattle.style.specs.declared.Style.{Style}
 use Rattle.tree.specs.Tree.{Tree, Forest, node, none, more, mapT, mapF, rootT, onRoot}
 use Rattle.tree.proofs.Laws.{mapT-node, mapF-none, mapF-more, rootT-node, rootT-map}
-use Rattle.steps.specs.Width.{isLeaf, flowOf}
-use Rattle.steps.specs.Stack.{startOf, stepJ, itemOf, placeOf, stepped, pastAside, pastHidden}
+use Rattle.style.specs.Flow.{isLeaf, flowOf}
+use Rattle.steps.specs.Stack.{startOf, questionTo, itemOf, placeOf, stepped, pastAside, pastHidden}
 use Rattle.steps.specs.Row.{isLaid, noRow, putAt}
 use Rattle.steps.specs.Page.{Site, Node}
 use Rattle.steps.specs.Kept.{Laid, kept, keep, zerosT}
 use Rattle.steps.specs.Layout.{Stacked, layT, layF, askT, leafLaid, blockLaid, skip, aside, place}
-use Rattle.steps.specs.declared.Flow.{Flow}
-use Rattle.steps.specs.declared.Flow.the-variants.{Gone, Out, In}
+use Rattle.style.specs.declared.Flow.{Flow}
+use Rattle.style.specs.declared.Flow.the-variants.{Gone, Out, In}
 use Rattle.steps.specs.declared.LayoutInput.{LayoutInput}
 use Rattle.steps.specs.declared.Frame.{Frame}
 use Rattle.steps.specs.declared.Cursor.{Cursor}
@@ -42,7 +42,7 @@ alike-same a b e = record { same-out = ap (λ (l : Laid). l .out) e; same-rows =
 unfoldable mutual
   pub SoundT : Tree Node → Type 0
   SoundT (node n ks) =
-      ((f : Frame) → kept (node n ks) (stepJ f (n .site .style)) ≡ true → Alike (keep (node n ks)) (layT (mapT bareN (node n ks)) (stepJ f (n .site .style)) zeroF)) × SoundF ks
+      ((f : Frame) → kept (node n ks) (questionTo f (n .site .style)) ≡ true → Alike (keep (node n ks)) (layT (mapT bareN (node n ks)) (questionTo f (n .site .style)) zeroF)) × SoundF ks
 
   pub SoundF : Forest Node → Type 0
   SoundF none = Unit {0}
@@ -57,17 +57,17 @@ ask-bare t q = askT-new (mapT bareN t) q (kept-bare t q)
 pub style-bare : (t : Tree Node) → styleT (mapT bareN t) ≡ styleT t
 style-bare t = ap (λ (n : Node). n .site .style) (rootT-map bareN t)
 
-sound-root : (t : Tree Node) → SoundT t → (f : Frame) → kept t (stepJ f (styleT t)) ≡ true → Alike (keep t) (layT (mapT bareN t) (stepJ f (styleT t)) zeroF)
+sound-root : (t : Tree Node) → SoundT t → (f : Frame) → kept t (questionTo f (styleT t)) ≡ true → Alike (keep t) (layT (mapT bareN t) (questionTo f (styleT t)) zeroF)
 unfolding SoundT rootT
 sound-root (node n ks) h f e = h .0 f e
 
-ask-alike : (t : Tree Node) (f : Frame) → SoundT t → layT t (stepJ f (styleT t)) zeroF ≡ layT (mapT bareN t) (stepJ f (styleT t)) zeroF
-    → Alike (askT t (stepJ f (styleT t))) (layT (mapT bareN t) (stepJ f (styleT t)) zeroF)
-ask-alike t f h e = go (kept t (stepJ f (styleT t))) refl
+ask-alike : (t : Tree Node) (f : Frame) → SoundT t → layT t (questionTo f (styleT t)) zeroF ≡ layT (mapT bareN t) (questionTo f (styleT t)) zeroF
+    → Alike (askT t (questionTo f (styleT t))) (layT (mapT bareN t) (questionTo f (styleT t)) zeroF)
+ask-alike t f h e = go (kept t (questionTo f (styleT t))) refl
   where
-    go : (b : Bool) → kept t (stepJ f (styleT t)) ≡ b → Alike (askT t (stepJ f (styleT t))) (layT (mapT bareN t) (stepJ f (styleT t)) zeroF)
-    go true q = rw (askT-kept t (stepJ f (styleT t)) q) (sound-root t h f q)
-    go false q = alike-same _ _ (askT-new t (stepJ f (styleT t)) q ∙ e)
+    go : (b : Bool) → kept t (questionTo f (styleT t)) ≡ b → Alike (askT t (questionTo f (styleT t))) (layT (mapT bareN t) (questionTo f (styleT t)) zeroF)
+    go true q = rw (askT-kept t (questionTo f (styleT t)) q) (sound-root t h f q)
+    go false q = alike-same _ _ (askT-new t (questionTo f (styleT t)) q ∙ e)
 
 -- the same child, then the same rest
 pub placed : (f : Frame) (c : Cursor) (s : Style) (a b : Laid) (g h : Cursor → Stacked) → Alike a b → ((d : Cursor) → g d ≡ h d) → place f c s a g ≡ place f c s b h
@@ -101,7 +101,7 @@ node-again n ks q found h = go (isLeaf (n .site .style .kind)) refl
         ∙ ap (blockLaid (bareN n) q (frameAt n q found)) (h (frameAt n q found) (startOf (frameAt n q found)))
         ∙ sym (ap (λ (t : Tree Node). layT t q found) (mapT-node bareN n ks) ∙ layT-block (bareN n) (mapF bareN ks) q found e)
 
-more-again : (t : Tree Node) (ts : Forest Node) (f : Frame) (c : Cursor) → Alike (askT t (stepJ f (styleT t))) (layT (mapT bareN t) (stepJ f (styleT t)) zeroF)
+more-again : (t : Tree Node) (ts : Forest Node) (f : Frame) (c : Cursor) → Alike (askT t (questionTo f (styleT t))) (layT (mapT bareN t) (questionTo f (styleT t)) zeroF)
     → ((d : Cursor) → layF ts f d ≡ layF (mapF bareN ts) f d) → layF (more t ts) f c ≡ layF (mapF bareN (more t ts)) f c
 more-again t ts f c a h = rw (mapF-more bareN t ts) (go (flowOf (styleT t)) refl)
   where
@@ -113,8 +113,8 @@ more-again t ts f c a h = rw (mapF-more bareN t ts) (go (flowOf (styleT t)) refl
     go Out e = layF-out t ts f c e ∙ asides f c _ _ _ _ (sym (zeros-T bareN t)) h ∙ sym (layF-out _ _ f c (same e))
     go In e =
         layF-in t ts f c e ∙ placed f c (styleT t) _ _ _ _ a h
-        ∙ ap (λ (l : Laid). place f c (styleT t) l (layF (mapF bareN ts) f)) (sym (ask-bare t (stepJ f (styleT t))))
-        ∙ ap (λ (s : Style). place f c s (askT (mapT bareN t) (stepJ f s)) (layF (mapF bareN ts) f)) (sym (style-bare t))
+        ∙ ap (λ (l : Laid). place f c (styleT t) l (layF (mapF bareN ts) f)) (sym (ask-bare t (questionTo f (styleT t))))
+        ∙ ap (λ (s : Style). place f c s (askT (mapT bareN t) (questionTo f s)) (layF (mapF bareN ts) f)) (sym (style-bare t))
         ∙ sym (layF-in _ _ f c (same e))
 
 mutual
@@ -125,7 +125,7 @@ mutual
 
   pub again-F : (ts : Forest Node) → SoundF ts → (f : Frame) (c : Cursor) → layF ts f c ≡ layF (mapF bareN ts) f c
   again-F none g f c = ap (λ (us : Forest Node). layF us f c) (sym (mapF-none bareN))
-  again-F (more t ts) g f c = more-again t ts f c (ask-alike t f (g .0) (sound-T t (g .0) (stepJ f (styleT t)) zeroF)) (λ d. again-F ts (g .1) f d)
+  again-F (more t ts) g f c = more-again t ts f c (ask-alike t f (g .0) (sound-T t (g .0) (questionTo f (styleT t)) zeroF)) (λ d. again-F ts (g .1) f d)
 
 -- the root is never kept: its own old row does not matter
 pub again-T : (t : Tree Node) → SoundF (kidsT t) → (q : LayoutInput) (found : Float) → layT t q found ≡ layT (mapT bareN t) q found
@@ -142,7 +142,7 @@ mutual
   unfolding SoundT AllT
 
   pub unlaid-T : (t : Tree Node) → AllT Unlaid t → SoundT t
-  unlaid-T (node n ks) h = ((λ f e. false-true (kept (node n ks) (stepJ f (n .site .style))) (unlaid-here n ks (h .0) (stepJ f (n .site .style))) e), unlaid-F ks (h .1))
+  unlaid-T (node n ks) h = ((λ f e. false-true (kept (node n ks) (questionTo f (n .site .style))) (unlaid-here n ks (h .0) (questionTo f (n .site .style))) e), unlaid-F ks (h .1))
 
   pub unlaid-F : (ts : Forest Node) → AllF Unlaid ts → SoundF ts
   unlaid-F none h = tt

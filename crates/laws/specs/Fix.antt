@@ -9,15 +9,15 @@ use Rattle.util.specs.declared.OptionF32.{OptionF32}
 use Rattle.style.specs.declared.Style.{Style}
 use Rattle.tree.specs.Tree.{Tree, Forest, node, none, more, mapT, mapF, rootT, onRoot}
 use Rattle.tree.proofs.Laws.{mapT-node, mapF-none, mapF-more, rootT-map, onRoot-node}
-use Rattle.steps.specs.Width.{isLeaf, flowOf}
-use Rattle.steps.specs.Stack.{startOf, stepJ, itemOf, stepped, lineOf, edgesOf, pastAside, pastHidden}
-use Rattle.steps.specs.Height.{finished}
-use Rattle.steps.specs.Row.{Row, Probe, bare, hiddenRow, asideRow, laidRow, putAt, probeOf, outputIn}
+use Rattle.style.specs.Flow.{isLeaf, flowOf}
+use Rattle.steps.specs.Stack.{startOf, questionTo, itemOf, stepped, lineOf, edgesOf, pastAside, pastHidden}
+use Rattle.steps.specs.Through.{finished}
+use Rattle.steps.specs.Row.{Row, ProbeWords, bare, hiddenRow, asideRow, laidRow, putAt, probeOf, outputIn}
 use Rattle.steps.specs.Page.{Site, Node}
 use Rattle.steps.specs.Kept.{keep, fixT, fixF, zerosT, zerosF}
 use Rattle.steps.specs.Layout.{layT, layF, skip, aside, place, alignF}
-use Rattle.steps.specs.declared.Flow.{Flow}
-use Rattle.steps.specs.declared.Flow.the-variants.{Gone, Out, In}
+use Rattle.style.specs.declared.Flow.{Flow}
+use Rattle.style.specs.declared.Flow.the-variants.{Gone, Out, In}
 use Rattle.steps.specs.declared.LayoutInput.{LayoutInput}
 use Rattle.steps.specs.declared.Frame.{Frame}
 use Rattle.steps.specs.declared.Cursor.{Cursor}
@@ -36,10 +36,10 @@ abbrev pub wasF : Full → Style
 wasF l = l .both .was
 
 -- the probe words of the old rows, and those of this time
-abbrev pub oldWords : Full → Probe
+abbrev pub oldWords : Full → ProbeWords
 oldWords l = probeOf (l .both .old)
 
-abbrev pub newWords : Full → Probe
+abbrev pub newWords : Full → ProbeWords
 newWords l = l .probe
 
 abbrev pub againN : Full → Node
@@ -55,7 +55,7 @@ seenN = viewN nowF oldWords
 abbrev pub afterN : Full → Node
 afterN = viewN nowF newWords
 
-blind-node : (l : Full) (ks : Forest Full) (q : LayoutInput) (found : Float) → ((f : Frame) (c : Cursor) → layF (mapF seenN ks) f c .end ≡ layF (mapF afterN ks) f c .end)
+blind-node : (l : Full) (ks : Forest Full) (q : LayoutInput) (found : Float) → ((f : Frame) (c : Cursor) → layF (mapF seenN ks) f c .last ≡ layF (mapF afterN ks) f c .last)
     → layT (mapT seenN (node l ks)) q found .out ≡ layT (mapT afterN (node l ks)) q found .out
 blind-node l ks q found h = rw (mapT-node seenN l ks, mapT-node afterN l ks) (go (isLeaf (nowF l .kind)) refl)
   where
@@ -66,37 +66,37 @@ blind-node l ks q found h = rw (mapT-node seenN l ks, mapT-node afterN l ks) (go
         ∙ sym (block-out (afterN l) _ q found e)
 
 -- where siblings end
-module _ (pr : Full → Probe) where
-  gone-end : (t : Tree Full) (ts : Forest Full) (f : Frame) (c : Cursor) → flowOf (nowF (rootT t)) ≡ Gone → layF (mapF (viewN nowF pr) (more t ts)) f c .end ≡ layF (mapF (viewN nowF pr) ts) f (pastHidden c) .end
+module _ (pr : Full → ProbeWords) where
+  gone-end : (t : Tree Full) (ts : Forest Full) (f : Frame) (c : Cursor) → flowOf (nowF (rootT t)) ≡ Gone → layF (mapF (viewN nowF pr) (more t ts)) f c .last ≡ layF (mapF (viewN nowF pr) ts) f (pastHidden c) .last
   unfolding skip
   gone-end t ts f c e = rw (mapF-more (viewN nowF pr) t ts, layF-gone (mapT (viewN nowF pr) t) (mapF (viewN nowF pr) ts) f c (ap (λ (n : Node). flowOf (n .site .style)) (rootT-map (viewN nowF pr) t) ∙ e))
 
-  out-end : (t : Tree Full) (ts : Forest Full) (f : Frame) (c : Cursor) → flowOf (nowF (rootT t)) ≡ Out → layF (mapF (viewN nowF pr) (more t ts)) f c .end ≡ layF (mapF (viewN nowF pr) ts) f (pastAside c) .end
+  out-end : (t : Tree Full) (ts : Forest Full) (f : Frame) (c : Cursor) → flowOf (nowF (rootT t)) ≡ Out → layF (mapF (viewN nowF pr) (more t ts)) f c .last ≡ layF (mapF (viewN nowF pr) ts) f (pastAside c) .last
   unfolding aside
   out-end t ts f c e = rw (mapF-more (viewN nowF pr) t ts, layF-out (mapT (viewN nowF pr) t) (mapF (viewN nowF pr) ts) f c (ap (λ (n : Node). flowOf (n .site .style)) (rootT-map (viewN nowF pr) t) ∙ e))
 
-  in-end : (t : Tree Full) (ts : Forest Full) (f : Frame) (c : Cursor) → flowOf (nowF (rootT t)) ≡ In → layF (mapF (viewN nowF pr) (more t ts)) f c .end ≡ layF (mapF (viewN nowF pr) ts) f (nextFor nowF pr t f c) .end
+  in-end : (t : Tree Full) (ts : Forest Full) (f : Frame) (c : Cursor) → flowOf (nowF (rootT t)) ≡ In → layF (mapF (viewN nowF pr) (more t ts)) f c .last ≡ layF (mapF (viewN nowF pr) ts) f (nextFor nowF pr t f c) .last
   unfolding place
   in-end t ts f c e =
-      rw (mapF-more (viewN nowF pr) t ts, layF-in (mapT (viewN nowF pr) t) (mapF (viewN nowF pr) ts) f c (ap (λ (n : Node). flowOf (n .site .style)) (rootT-map (viewN nowF pr) t) ∙ e), ap (λ (n : Node). n .site .style) (rootT-map (viewN nowF pr) t), ask-view nowF pr t (stepJ f (nowF (rootT t))))
+      rw (mapF-more (viewN nowF pr) t ts, layF-in (mapT (viewN nowF pr) t) (mapF (viewN nowF pr) ts) f c (ap (λ (n : Node). flowOf (n .site .style)) (rootT-map (viewN nowF pr) t) ∙ e), ap (λ (n : Node). n .site .style) (rootT-map (viewN nowF pr) t), ask-view nowF pr t (questionTo f (nowF (rootT t))))
 
 same-next : (t : Tree Full) (f : Frame) (c : Cursor) → ((q : LayoutInput) (found : Float) → layT (mapT seenN t) q found .out ≡ layT (mapT afterN t) q found .out) → nextFor nowF oldWords t f c ≡ nextFor nowF newWords t f c
-same-next t f c h = ap (stepped f c (itemOf f (nowF (rootT t)))) (h (stepJ f (nowF (rootT t))) zeroF)
+same-next t f c h = ap (stepped f c (itemOf f (nowF (rootT t)))) (h (questionTo f (nowF (rootT t))) zeroF)
 
 blind-more : (t : Tree Full) (ts : Forest Full) (f : Frame) (c : Cursor) → ((q : LayoutInput) (found : Float) → layT (mapT seenN t) q found .out ≡ layT (mapT afterN t) q found .out)
-    → ((d : Cursor) → layF (mapF seenN ts) f d .end ≡ layF (mapF afterN ts) f d .end) → layF (mapF seenN (more t ts)) f c .end ≡ layF (mapF afterN (more t ts)) f c .end
+    → ((d : Cursor) → layF (mapF seenN ts) f d .last ≡ layF (mapF afterN ts) f d .last) → layF (mapF seenN (more t ts)) f c .last ≡ layF (mapF afterN (more t ts)) f c .last
 blind-more t ts f c h r = go (flowOf (nowF (rootT t))) refl
   where
-    go : (w : Flow) → flowOf (nowF (rootT t)) ≡ w → layF (mapF seenN (more t ts)) f c .end ≡ layF (mapF afterN (more t ts)) f c .end
+    go : (w : Flow) → flowOf (nowF (rootT t)) ≡ w → layF (mapF seenN (more t ts)) f c .last ≡ layF (mapF afterN (more t ts)) f c .last
     go Gone e = gone-end oldWords t ts f c e ∙ r (pastHidden c) ∙ sym (gone-end newWords t ts f c e)
     go Out e = out-end oldWords t ts f c e ∙ r (pastAside c) ∙ sym (out-end newWords t ts f c e)
-    go In e = in-end oldWords t ts f c e ∙ r (nextFor nowF oldWords t f c) ∙ ap (λ (d : Cursor). layF (mapF afterN ts) f d .end) (same-next t f c h) ∙ sym (in-end newWords t ts f c e)
+    go In e = in-end oldWords t ts f c e ∙ r (nextFor nowF oldWords t f c) ∙ ap (λ (d : Cursor). layF (mapF afterN ts) f d .last) (same-next t f c h) ∙ sym (in-end newWords t ts f c e)
 
 mutual
   pub blind-T : (t : Tree Full) (q : LayoutInput) (found : Float) → layT (mapT seenN t) q found .out ≡ layT (mapT afterN t) q found .out
   blind-T (node l ks) q found = blind-node l ks q found (λ f c. blind-F ks f c)
 
-  pub blind-F : (ts : Forest Full) (f : Frame) (c : Cursor) → layF (mapF seenN ts) f c .end ≡ layF (mapF afterN ts) f c .end
+  pub blind-F : (ts : Forest Full) (f : Frame) (c : Cursor) → layF (mapF seenN ts) f c .last ≡ layF (mapF afterN ts) f c .last
   blind-F none f c = rw (mapF-none seenN, mapF-none afterN)
   blind-F (more t ts) f c = blind-more t ts f c (λ q found. blind-T t q found) (λ d. blind-F ts f d)
 
@@ -147,7 +147,7 @@ unfolding hiddenRow bare onRoot zerosT zerosF mapT
 hidden-again n l ks = refl
 
 aside-again : (a b c : Float) (n : ℕ) (l : Full) (ks : Forest Full)
-    → node (asideRow (asideRow a b c n .x) (asideRow a b c n .y) (asideRow a b c n .w) (asideRow a b c n .order)) (zerosF ks) ≡ onRoot (λ _. asideRow a b c n) (zerosT (node l ks))
+    → node (asideRow (asideRow a b c n .place .x) (asideRow a b c n .place .y) (asideRow a b c n .answer .size .width) (asideRow a b c n .order)) (zerosF ks) ≡ onRoot (λ _. asideRow a b c n) (zerosT (node l ks))
 unfolding asideRow bare onRoot zerosT zerosF mapT
 aside-again a b c n l ks = refl
 
@@ -166,8 +166,8 @@ fix-out : (t : Tree Full) (a b c : Float) (n : ℕ) → flowOf (nowF (rootT t)) 
 unfolding rootT
 fix-out (node l ks) a b c n w e =
     ap fixT (mapT-node againN l ks) ∙ fixT-at (againN l) (mapF againN ks) Out w
-    ∙ ap (λ (us : Forest Row). node (asideRow (l .both .old .x) (l .both .old .y) (l .both .old .w) (l .both .old .order)) us) (zeros-F againN ks)
-    ∙ ap (λ (r : Row). node (asideRow (r .x) (r .y) (r .w) (r .order)) (zerosF ks)) (top-zeros l ks (asideRow a b c n) e) ∙ aside-again a b c n l ks
+    ∙ ap (λ (us : Forest Row). node (asideRow (l .both .old .place .x) (l .both .old .place .y) (l .both .old .answer .size .width) (l .both .old .order)) us) (zeros-F againN ks)
+    ∙ ap (λ (r : Row). node (asideRow (r .place .x) (r .place .y) (r .answer .size .width) (r .order)) (zerosF ks)) (top-zeros l ks (asideRow a b c n) e) ∙ aside-again a b c n l ks
 
 fixed-nothing : (d : OptionF32) (f : Frame) (c : Cursor) → FixedF none d f c
 unfolding mapF layF
@@ -195,7 +195,7 @@ fix-more t ts d f c e ht hts = ap fixF (mapF-more againN t ts) ∙ fixF-more _ _
         rw (fix-out t (edgesOf f .start) (movedY d (lineOf f c)) (edgesOf f .end) (c .shown .0) w (h .rows), hts (pastAside c) (h .rest)) (sym (out-rows nowF newWords t ts d f c w))
     go In w =
         let h = along-in nowF oldWords t ts d f c e w in
-        let q = stepJ f (nowF (rootT t)) in
+        let q = questionTo f (nowF (rootT t)) in
         let o : layT (mapT seenN t) q zeroF .out ≡ layT (mapT afterN t) q zeroF .out = blind-T t q zeroF in
         rw (ht q _ _ (h .rows) w, hts (nextFor nowF oldWords t f c) (h .rest), o) (sym (in-rows nowF newWords t ts d f c w))
 

@@ -10,14 +10,14 @@ use Rattle.limits.specs.Bools.{and-fst, and-snd, or-left, or-right}
 use Rattle.style.specs.declared.Style.{Style}
 use Rattle.tree.specs.Tree.{Tree, Forest, node, none, more, mapT, mapF, rootT, onRoot}
 use Rattle.tree.proofs.Laws.{mapT-node, mapF-more, map-mapT}
-use Rattle.steps.specs.Width.{isLeaf, flowOf}
-use Rattle.steps.specs.Stack.{stepJ}
+use Rattle.style.specs.Flow.{isLeaf, flowOf}
+use Rattle.steps.specs.Stack.{questionTo}
 use Rattle.steps.specs.Row.{Row, isLaid, noRow, putAt}
 use Rattle.steps.specs.Page.{Node, anyT, anyF}
 use Rattle.steps.specs.Kept.{kept, editedNode, finalStands, keep, zerosT, zerosF}
 use Rattle.steps.specs.Layout.{layT}
-use Rattle.steps.specs.declared.Flow.{Flow}
-use Rattle.steps.specs.declared.Flow.the-variants.{Gone, Out, In}
+use Rattle.style.specs.declared.Flow.{Flow}
+use Rattle.style.specs.declared.Flow.the-variants.{Gone, Out, In}
 use Rattle.steps.specs.declared.LayoutInput.{LayoutInput}
 use Rattle.steps.specs.declared.Frame.{Frame}
 use Rattle.steps.specs.declared.Cursor.{Cursor}
@@ -70,7 +70,7 @@ top-same l ks h = h .0
 abbrev Rows : Tree Full → (Full → Style) → LayoutInput → Point → ℕ → Type 0
 Rows t st q p n = RowsT st oldWords t q zeroF p n
 
-at-style : (m : Tree Row) (u : Tree Node) (g : Frame) (p : Point) (n : ℕ) (s z : Style) → s ≡ z → m ≡ onRoot (putAt p n) (layT u (stepJ g s) zeroF .rows) → m ≡ onRoot (putAt p n) (layT u (stepJ g z) zeroF .rows)
+at-style : (m : Tree Row) (u : Tree Node) (g : Frame) (p : Point) (n : ℕ) (s z : Style) → s ≡ z → m ≡ onRoot (putAt p n) (layT u (questionTo g s) zeroF .rows) → m ≡ onRoot (putAt p n) (layT u (questionTo g z) zeroF .rows)
 at-style m u g p n s z d e = rw d at e
 
 kept-parts : (l : Full) (ks : Forest Full) (q : LayoutInput) → kept (mapT againN (node l ks)) q ≡ true → (anyT editedNode (mapT againN (node l ks)) ≡ false) × (finalStands q (l .both .old) ≡ true)
@@ -79,15 +79,15 @@ kept-parts l ks q k =
     let a = not-true _ (and-fst (not (anyT editedNode (mapT againN (node l ks)))) _ k) in
     (a, and-snd (not (l .anew)) _ (and-snd (not (anyT editedNode (mapT againN (node l ks)))) _ k))
 
-sound-here : (l : Full) (ks : Forest Full) (g : Frame) (p : Point) (n : ℕ) → Rows (node l ks) wasF (stepJ g (wasF l)) p n → AllT HonestL (node l ks) → LeavesT (mapT siteF (node l ks))
-    → (f : Frame) → kept (mapT againN (node l ks)) (stepJ f (nowF l)) ≡ true → Alike (keep (mapT againN (node l ks))) (layT (mapT afterN (node l ks)) (stepJ f (nowF l)) zeroF)
+sound-here : (l : Full) (ks : Forest Full) (g : Frame) (p : Point) (n : ℕ) → Rows (node l ks) wasF (questionTo g (wasF l)) p n → AllT HonestL (node l ks) → LeavesT (mapT siteF (node l ks))
+    → (f : Frame) → kept (mapT againN (node l ks)) (questionTo f (nowF l)) ≡ true → Alike (keep (mapT againN (node l ks))) (layT (mapT afterN (node l ks)) (questionTo f (nowF l)) zeroF)
 sound-here l ks g p n e h v f k =
-    let z = kept-parts l ks (stepJ f (nowF l)) k in
+    let z = kept-parts l ks (questionTo f (nowF l)) k in
     let s : AllT Same (node l ks) = same-T (node l ks) h (z .0) in
-    let e1 : Rows (node l ks) wasF (stepJ g (nowF l)) p n = at-style _ _ g p n _ _ (top-same l ks s) e in
-    let e2 : Rows (node l ks) nowF (stepJ g (nowF l)) p n = rw (clean-T (node l ks) s) at e1 in
-    let q : stepJ f (nowF l) ≡ stepJ g (nowF l) = final-is f g (nowF l) _ (oldWords l) p n (l .both .old) (own-row nowF oldWords l ks (stepJ g (nowF l)) zeroF p n e2) (z .1) in
-    rw q (keep-alike l ks (stepJ g (nowF l)) p n e2 v)
+    let e1 : Rows (node l ks) wasF (questionTo g (nowF l)) p n = at-style _ _ g p n _ _ (top-same l ks s) e in
+    let e2 : Rows (node l ks) nowF (questionTo g (nowF l)) p n = rw (clean-T (node l ks) s) at e1 in
+    let q : questionTo f (nowF l) ≡ questionTo g (nowF l) = final-is f g (nowF l) _ (oldWords l) p n (l .both .old) (own-row nowF oldWords l ks (questionTo g (nowF l)) zeroF p n e2) (z .1) in
+    rw q (keep-alike l ks (questionTo g (nowF l)) p n e2 v)
 
 -- rows that are not laid
 abbrev pub Off : Row → Type 0
@@ -132,13 +132,13 @@ good-kids l ks q found p n e h = go (isLeaf (wasF l .kind)) refl
     go true b = off-sound-F ks (down-leaf wasF oldWords l ks q found p n e b)
     go false b = h _ _ _ (down wasF oldWords l ks q found p n e b)
 
-good-node : (l : Full) (ks : Forest Full) (g : Frame) (p : Point) (n : ℕ) → Rows (node l ks) wasF (stepJ g (wasF l)) p n → AllT HonestL (node l ks) → LeavesT (mapT siteF (node l ks))
+good-node : (l : Full) (ks : Forest Full) (g : Frame) (p : Point) (n : ℕ) → Rows (node l ks) wasF (questionTo g (wasF l)) p n → AllT HonestL (node l ks) → LeavesT (mapT siteF (node l ks))
     → SoundF (mapF againN ks) → SoundT (mapT againN (node l ks))
 unfolding SoundT mapT
 good-node l ks g p n e h v s = ((λ f k. rw (after-bare l ks) (sound-here l ks g p n e h v f k)), s)
 
 good-more : (t : Tree Full) (ts : Forest Full) (d : OptionF32) (f : Frame) (c : Cursor) → RowsF wasF oldWords (more t ts) d f c
-    → ((p : Point) (n : ℕ) → Rows t wasF (stepJ f (wasF (rootT t))) p n → SoundT (mapT againN t)) → ((e : Cursor) → RowsF wasF oldWords ts d f e → SoundF (mapF againN ts))
+    → ((p : Point) (n : ℕ) → Rows t wasF (questionTo f (wasF (rootT t))) p n → SoundT (mapT againN t)) → ((e : Cursor) → RowsF wasF oldWords ts d f e → SoundF (mapF againN ts))
     → SoundF (mapF againN (more t ts))
 good-more t ts d f c e ht hts = rw (mapF-more againN t ts) (go (flowOf (wasF (rootT t))) refl)
   where
@@ -156,7 +156,7 @@ good-more t ts d f c e ht hts = rw (mapF-more againN t ts) (go (flowOf (wasF (ro
 mutual
   unfolding AllT LeavesT mapT rootT
 
-  good-T : (t : Tree Full) → AllT HonestL t → LeavesT (mapT siteF t) → (g : Frame) (p : Point) (n : ℕ) → Rows t wasF (stepJ g (wasF (rootT t))) p n → SoundT (mapT againN t)
+  good-T : (t : Tree Full) → AllT HonestL t → LeavesT (mapT siteF t) → (g : Frame) (p : Point) (n : ℕ) → Rows t wasF (questionTo g (wasF (rootT t))) p n → SoundT (mapT againN t)
   good-T (node l ks) h v g p n e = good-node l ks g p n e h v (good-kids l ks _ zeroF p n e (λ d f c r. good-F ks (h .1) (v .1) d f c r))
 
   pub good-F : (ts : Forest Full) → AllF HonestL ts → LeavesF (mapF siteF ts) → (d : OptionF32) (f : Frame) (c : Cursor) → RowsF wasF oldWords ts d f c → SoundF (mapF againN ts)

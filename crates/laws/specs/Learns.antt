@@ -8,14 +8,14 @@ use Rattle.style.specs.declared.Kind.{Kind}
 use Rattle.style.specs.declared.Position.{Position}
 use Rattle.tree.specs.Tree.{Tree, Forest, node, none, more, mapT, mapF, rootT}
 use Rattle.tree.proofs.Laws.{mapT-node, mapF-none, mapF-more, rootT-map, map-mapT, map-id-T}
-use Rattle.steps.specs.Width.{isLeaf, flowOf, flowBy}
-use Rattle.steps.specs.Stack.{startOf, stepJ}
+use Rattle.style.specs.Flow.{isLeaf, flowOf, flowBy}
+use Rattle.steps.specs.Stack.{startOf, questionTo}
 use Rattle.steps.specs.Page.{Cell, Node, anyT}
 use Rattle.steps.specs.Probe.{widthPass}
 use Rattle.steps.specs.Kept.{kept, editedNode, keep, keptRow, belowRow, fixT, fixF, zerosT}
 use Rattle.steps.specs.Layout.{layT, layF, askT, leafLaid, blockLaid, place, relaid}
-use Rattle.steps.specs.declared.Flow.{Flow}
-use Rattle.steps.specs.declared.Flow.the-variants.{Gone, Out, In}
+use Rattle.style.specs.declared.Flow.{Flow}
+use Rattle.style.specs.declared.Flow.the-variants.{Gone, Out, In}
 use Rattle.steps.specs.declared.LayoutInput.{LayoutInput}
 use Rattle.steps.specs.declared.Frame.{Frame}
 use Rattle.steps.specs.declared.Cursor.{Cursor}
@@ -142,10 +142,10 @@ module _ (t : Tree Pair) (ts : Forest Pair) (f : Frame) (agree : AllT AgreeP t) 
   one = same-style t (top-agree t agree) (top-below t _ marks (marks-top (mapT node1 t) f))
 
   ask-same : flowOf (styleT (mapT node1 t)) ≡ In → ((q : LayoutInput) → mapT belowP t ≡ belowT (mapT node1 t) q zeroF → layT (mapT node1 t) q zeroF ≡ layT (mapT node2 t) q zeroF)
-      → askT (mapT node1 t) (stepJ f (styleT (mapT node1 t))) ≡ askT (mapT node2 t) (stepJ f (styleT (mapT node1 t)))
-  ask-same w h = go (kept (mapT node1 t) (stepJ f (styleT (mapT node1 t)))) refl
+      → askT (mapT node1 t) (questionTo f (styleT (mapT node1 t))) ≡ askT (mapT node2 t) (questionTo f (styleT (mapT node1 t)))
+  ask-same w h = go (kept (mapT node1 t) (questionTo f (styleT (mapT node1 t)))) refl
     where
-      go : (b : Bool) → kept (mapT node1 t) (stepJ f (styleT (mapT node1 t))) ≡ b → askT (mapT node1 t) (stepJ f (styleT (mapT node1 t))) ≡ askT (mapT node2 t) (stepJ f (styleT (mapT node1 t)))
+      go : (b : Bool) → kept (mapT node1 t) (questionTo f (styleT (mapT node1 t))) ≡ b → askT (mapT node1 t) (questionTo f (styleT (mapT node1 t))) ≡ askT (mapT node2 t) (questionTo f (styleT (mapT node1 t)))
       go true b = askT-kept _ _ b ∙ keep-same t agree ∙ sym (askT-kept _ _ (sym (kept-same t _) ∙ b))
       go false b = askT-new _ _ b ∙ h _ (marks ∙ marks-at (mapT node1 t) f In w ∙ marks-laid (mapT node1 t) f b) ∙ sym (askT-new _ _ (sym (kept-same t _) ∙ b))
 
@@ -164,7 +164,7 @@ module _ (t : Tree Pair) (ts : Forest Pair) (f : Frame) (agree : AllT AgreeP t) 
       go Out w = layF-out _ _ f c w ∙ asides f c _ _ _ _ zeros (r rest) ∙ sym (layF-out _ _ f c (also Out w))
       go In w =
           layF-in _ _ f c w ∙ placed f c (styleT (mapT node1 t)) _ _ _ _ (alike-same _ _ (ask-same w h)) (r rest)
-          ∙ ap (λ (s : Style). place f c s (askT (mapT node2 t) (stepJ f s)) (layF (mapF node2 ts) f)) one ∙ sym (layF-in _ _ f c (also In w))
+          ∙ ap (λ (s : Style). place f c s (askT (mapT node2 t) (questionTo f s)) (layF (mapF node2 ts) f)) one ∙ sym (layF-in _ _ f c (also In w))
 
 mutual
   unfolding AllT

@@ -4,13 +4,13 @@ use mathlib.Core.Bool.{Bool, true, false}
 use lib.Ieee.{Float}
 use Rattle.geometry.specs.Geometry.{zeroF}
 use Rattle.tree.specs.Tree.{Tree, Forest, node, none, more, mapT, mapF, onRoot}
-use Rattle.steps.specs.Width.{isLeaf, flowOf}
+use Rattle.style.specs.Flow.{isLeaf, flowOf}
 use Rattle.steps.specs.Edges.{frameOf}
-use Rattle.steps.specs.Stack.{stepJ}
+use Rattle.steps.specs.Stack.{questionTo}
 use Rattle.steps.specs.Page.{Node}
 use Rattle.steps.specs.Kept.{kept}
-use Rattle.steps.specs.declared.Flow.{Flow}
-use Rattle.steps.specs.declared.Flow.the-variants.{Gone, Out, In}
+use Rattle.style.specs.declared.Flow.{Flow}
+use Rattle.style.specs.declared.Flow.the-variants.{Gone, Out, In}
 use Rattle.steps.specs.declared.LayoutInput.{LayoutInput}
 use Rattle.steps.specs.declared.Frame.{Frame}
 use Rattle.steps.proofs.Clauses.{byTest, byFlow, styleT}
@@ -19,7 +19,7 @@ use Rattle.laws.specs.Below.{under, belowT, belowF}
 
 -- the marks of a child that is answered
 unfoldable pub marksIn : Tree Node → Frame → Tree Bool
-marksIn t f = byTest (kept t (stepJ f (styleT t))) (under t) (belowT t (stepJ f (styleT t)) zeroF)
+marksIn t f = byTest (kept t (questionTo f (styleT t))) (under t) (belowT t (questionTo f (styleT t)) zeroF)
 
 -- the marks of a child
 unfoldable pub marksOf : Tree Node → Frame → Tree Bool
@@ -51,13 +51,13 @@ pub marks-at : (t : Tree Node) (f : Frame) (w : Flow) → flowOf (styleT t) ≡ 
 unfolding marksOf
 marks-at t f w e = ap (λ (v : Flow). byFlow v (mapT (λ _. false) t) (mapT (λ _. false) t) (marksIn t f)) e
 
-pub marks-kept : (t : Tree Node) (f : Frame) → kept t (stepJ f (styleT t)) ≡ true → marksIn t f ≡ under t
+pub marks-kept : (t : Tree Node) (f : Frame) → kept t (questionTo f (styleT t)) ≡ true → marksIn t f ≡ under t
 unfolding marksIn
-marks-kept t f e = ap (λ (b : Bool). byTest b (under t) (belowT t (stepJ f (styleT t)) zeroF)) e
+marks-kept t f e = ap (λ (b : Bool). byTest b (under t) (belowT t (questionTo f (styleT t)) zeroF)) e
 
-pub marks-laid : (t : Tree Node) (f : Frame) → kept t (stepJ f (styleT t)) ≡ false → marksIn t f ≡ belowT t (stepJ f (styleT t)) zeroF
+pub marks-laid : (t : Tree Node) (f : Frame) → kept t (questionTo f (styleT t)) ≡ false → marksIn t f ≡ belowT t (questionTo f (styleT t)) zeroF
 unfolding marksIn
-marks-laid t f e = ap (λ (b : Bool). byTest b (under t) (belowT t (stepJ f (styleT t)) zeroF)) e
+marks-laid t f e = ap (λ (b : Bool). byTest b (under t) (belowT t (questionTo f (styleT t)) zeroF)) e
 
 top-under : {A : Type 0} (t : Tree A) → topT (under t) ≡ false
 unfolding under onRoot mapT
@@ -71,11 +71,11 @@ top-false (node a ks) = refl
 pub marks-top : (t : Tree Node) (f : Frame) → topT (marksOf t f) ≡ false
 marks-top t f = go (flowOf (styleT t)) refl
   where
-    in-top : (b : Bool) → kept t (stepJ f (styleT t)) ≡ b → topT (marksIn t f) ≡ false
+    in-top : (b : Bool) → kept t (questionTo f (styleT t)) ≡ b → topT (marksIn t f) ≡ false
     in-top true e = ap topT (marks-kept t f e) ∙ top-under t
     in-top false e = ap topT (marks-laid t f e) ∙ below-top t _ zeroF
 
     go : (w : Flow) → flowOf (styleT t) ≡ w → topT (marksOf t f) ≡ false
     go Gone e = ap topT (marks-at t f Gone e) ∙ top-false t
     go Out e = ap topT (marks-at t f Out e) ∙ top-false t
-    go In e = ap topT (marks-at t f In e) ∙ in-top (kept t (stepJ f (styleT t))) refl
+    go In e = ap topT (marks-at t f In e) ∙ in-top (kept t (questionTo f (styleT t))) refl

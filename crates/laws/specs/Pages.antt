@@ -4,7 +4,7 @@ use mathlib.Core.Bool.{Bool, true, false}
 use Prim.Native.Nat.{ℕ}
 use Rattle.style.specs.declared.Style.{Style}
 use Rattle.tree.specs.Tree.{Tree, Forest, node, none, more}
-use Rattle.steps.specs.Width.{isLeaf}
+use Rattle.style.specs.Flow.{isLeaf}
 use Rattle.steps.specs.Row.{Row}
 use Rattle.steps.specs.Page.{Site, Cell}
 

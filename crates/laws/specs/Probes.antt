@@ -10,8 +10,9 @@ use Rattle.length.specs.declared.AvailableSpace.{AvailableSpace}
 use Rattle.style.specs.declared.Style.{Style}
 use Rattle.tree.specs.Tree.{Tree, Forest, node, none, more, mapT, mapF, rootT}
 use Rattle.tree.proofs.Laws.{mapT-node, mapF-more, map-mapT, map-mapF}
-use Rattle.steps.specs.Width.{isLeaf, stepF}
-use Rattle.steps.specs.Row.{Probe, noRow, noProbe, probeOf, probeNote}
+use Rattle.style.specs.Flow.{isLeaf}
+use Rattle.steps.specs.Width.{wantOf}
+use Rattle.steps.specs.Row.{ProbeWords, noRow, noProbe, probeOf, probeNote}
 use Rattle.steps.specs.Page.{Cell, Node, anyT, anyF, edits, cleared, staying, probedAnew}
 use Rattle.steps.specs.Probe.{Probed, Widest, probeStands, answered, stay, probeT, probeF, asked, blockProbe, probeKnown, spaceIn, widen, passBy, widthPass, askP}
 use Rattle.steps.specs.declared.Want.{Want}
@@ -26,7 +27,7 @@ use Rattle.laws.specs.Bits.{probe-is, no-probe}
 use Rattle.laws.specs.Pages.{Both, siteBy, nowSite, wasSite, again, Honest}
 
 -- the words of the old rows; the two pages with nothing kept
-abbrev pub wordsOf : Both → Probe
+abbrev pub wordsOf : Both → ProbeWords
 wordsOf l = probeOf (l .old)
 
 abbrev pub beforeC : Both → Cell
@@ -93,11 +94,11 @@ stay-words : (t : Tree Both) → mapT probeIn (stay (mapT again t) .nodes) ≡ m
 unfolding stay staying
 stay-words t = map-mapT probeIn staying (mapT again t) ∙ map-mapT (λ (c : Cell). probeOf (c .old)) again t
 
-stay-answer : (l : Both) (ks : Forest Both) → stay (mapT again (node l ks)) .answer ≡ probeOf (l .old) .answer
+stay-answer : (l : Both) (ks : Forest Both) → stay (mapT again (node l ks)) .answer ≡ probeOf (l .old) .numbers .answer
 unfolding stay rootT mapT probeOf
 stay-answer l ks = refl
 
-note-answer : (q : ProbeInput) (a : Float) → probeNote q a .answer ≡ a
+note-answer : (q : ProbeInput) (a : Float) → probeNote q a .numbers .answer ≡ a
 unfolding probeNote
 note-answer q a = refl
 
@@ -109,21 +110,21 @@ true-here l ks g e h q k =
     let w : mapT wordsOf (node l ks) ≡ mapT probeIn (probeT (mapT afterC (node l ks)) g .nodes) = rw c at e in
     let n : probeOf (l .old) ≡ probeNote g (probeT (mapT afterC (node l ks)) g .answer) = ap topT (sym (mapT-node wordsOf l ks) ∙ w) ∙ probe-top (mapT afterC (node l ks)) g in
     let p : q ≡ g = probe-is q g _ (l .old) n (z .1) in
-    rw p (record { same-answer = stay-answer l ks ∙ ap (λ (x : Probe). x .answer) n ∙ note-answer g _; same-words = stay-words (node l ks) ∙ w })
+    rw p (record { same-answer = stay-answer l ks ∙ ap (λ (x : ProbeWords). x .numbers .answer) n ∙ note-answer g _; same-words = stay-words (node l ks) ∙ w })
 
 -- words of zeros
 quiet-T : (t : Tree Both) → mapT wordsOf t ≡ mapT (λ (_ : Both). noProbe) t → TrueT (mapT again t)
 quiet-T t e =
-    let z : AllT (λ (p : Probe). p ≡ noProbe) (mapT wordsOf t) = rw e (all-back-T (λ (_ : Both). noProbe) (λ (p : Probe). p ≡ noProbe) t (all-any-T _ (λ _. refl) t)) in
-    unprobed-T _ (all-back-T again Unprobed t (mute t (all-map-T wordsOf (λ (p : Probe). p ≡ noProbe) t z)))
+    let z : AllT (λ (p : ProbeWords). p ≡ noProbe) (mapT wordsOf t) = rw e (all-back-T (λ (_ : Both). noProbe) (λ (p : ProbeWords). p ≡ noProbe) t (all-any-T _ (λ _. refl) t)) in
+    unprobed-T _ (all-back-T again Unprobed t (mute t (all-map-T wordsOf (λ (p : ProbeWords). p ≡ noProbe) t z)))
   where
     mute : (t : Tree Both) → AllT (λ (l : Both). wordsOf l ≡ noProbe) t → AllT (λ (l : Both). Unprobed (again l)) t
     mute t h = all-T (λ (l : Both). wordsOf l ≡ noProbe) (λ (l : Both). Unprobed (again l)) (λ l e q. no-probe q (l .old) e) t h
 
 pub quiet-F : (ts : Forest Both) → mapF wordsOf ts ≡ mapF (λ (_ : Both). noProbe) ts → TrueF (mapF again ts)
 quiet-F ts e =
-    let z : AllF (λ (p : Probe). p ≡ noProbe) (mapF wordsOf ts) = rw e (all-back-F (λ (_ : Both). noProbe) (λ (p : Probe). p ≡ noProbe) ts (all-any-F _ (λ _. refl) ts)) in
-    unprobed-F _ (all-back-F again Unprobed ts (mute ts (all-map-F wordsOf (λ (p : Probe). p ≡ noProbe) ts z)))
+    let z : AllF (λ (p : ProbeWords). p ≡ noProbe) (mapF wordsOf ts) = rw e (all-back-F (λ (_ : Both). noProbe) (λ (p : ProbeWords). p ≡ noProbe) ts (all-any-F _ (λ _. refl) ts)) in
+    unprobed-F _ (all-back-F again Unprobed ts (mute ts (all-map-F wordsOf (λ (p : ProbeWords). p ≡ noProbe) ts z)))
   where
     mute : (ts : Forest Both) → AllF (λ (l : Both). wordsOf l ≡ noProbe) ts → AllF (λ (l : Both). Unprobed (again l)) ts
     mute ts h = all-F (λ (l : Both). wordsOf l ≡ noProbe) (λ (l : Both). Unprobed (again l)) (λ l e q. no-probe q (l .old) e) ts h
@@ -154,7 +155,7 @@ asked-kids : (l : Cell) (q : ProbeInput) (a : Float) (us : Forest Node) → kids
 unfolding asked mapT
 asked-kids l q a us = refl
 
-box-kids : (l : Cell) (g : ProbeInput) (ts : Forest Both) (w : OptionF32) (r : Widest) (x : Forest Probe) → mapF wordsOf ts ≡ kidsT (mapT probeIn (blockProbe l g (mapF beforeC ts) w r .nodes))
+box-kids : (l : Cell) (g : ProbeInput) (ts : Forest Both) (w : OptionF32) (r : Widest) (x : Forest ProbeWords) → mapF wordsOf ts ≡ kidsT (mapT probeIn (blockProbe l g (mapF beforeC ts) w r .nodes))
     → (mapF wordsOf ts ≡ mapF probeIn (r .nodes) → TrueF (mapF again ts)) → TrueF (mapF again ts)
 unfolding blockProbe
 box-kids l g ts None r x e h = h (e ∙ asked-kids l g _ _)
@@ -182,7 +183,7 @@ widen-first m t g = refl
 
 good-more : (t : Tree Both) (ts : Forest Both) (a : AvailableSpace) (m : Float) → WordsF (more t ts) a m → ((g : ProbeInput) → WordsT t g → TrueT (mapT again t)) → ((k : Float) → WordsF ts a k → TrueF (mapF again ts))
     → TrueF (mapF again (more t ts))
-good-more t ts a m e ht hts = rw (mapF-more again t ts) (go (stepF (styleC (mapT beforeC t)) a) refl)
+good-more t ts a m e ht hts = rw (mapF-more again t ts) (go (wantOf (styleC (mapT beforeC t)) a) refl)
   where
     e1 : more (mapT wordsOf t) (mapF wordsOf ts) ≡ mapF probeIn (probeF (more (mapT beforeC t) (mapF beforeC ts)) a m .nodes)
     e1 = sym (mapF-more wordsOf t ts) ∙ e ∙ ap (λ (us : Forest Cell). mapF probeIn (probeF us a m .nodes)) (mapF-more beforeC t ts)
@@ -198,7 +199,7 @@ good-more t ts a m e ht hts = rw (mapF-more again t ts) (go (stepF (styleC (mapT
     quiet : mapT wordsOf t ≡ mapT probeIn (mapT cleared (mapT beforeC t)) → TrueT (mapT again t)
     quiet p = quiet-T t (p ∙ clear-T (mapT beforeC t) ∙ map-mapT (λ (_ : Cell). noProbe) beforeC t)
 
-    go : (w : Want) → stepF (styleC (mapT beforeC t)) a ≡ w → TrueF (more (mapT again t) (mapF again ts))
+    go : (w : Want) → wantOf (styleC (mapT beforeC t)) a ≡ w → TrueF (more (mapT again t) (mapF again ts))
     go Nothing p = done _ _ (at Nothing _ _ (probeF-at (mapT beforeC t) (mapF beforeC ts) a m Nothing p)) quiet
     go (Outer v) p = done _ _ (at (Outer v) _ _ (probeF-at (mapT beforeC t) (mapF beforeC ts) a m (Outer v) p)) quiet
     go (want.Probe g) p =

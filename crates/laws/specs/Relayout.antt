@@ -6,8 +6,8 @@ use Rattle.geometry.specs.Geometry.{zeroF}
 use Rattle.geometry.specs.declared.Point.{Point}
 use Rattle.tree.specs.Tree.{Tree, Forest, node, mapT, mapF, rootT, onRoot}
 use Rattle.tree.proofs.Laws.{mapT-node, rootT-node, rootT-map, map-mapT, map-mapF}
-use Rattle.steps.specs.Width.{isLeaf}
-use Rattle.steps.specs.Row.{Row, Probe, noRow, noProbe, laidRow, putAt, probeOf}
+use Rattle.style.specs.Flow.{isLeaf}
+use Rattle.steps.specs.Row.{Row, ProbeWords, noRow, noProbe, laidRow, putAt, probeOf}
 use Rattle.steps.specs.Page.{Site, Cell, Node, blank}
 use Rattle.steps.specs.Probe.{widthPass}
 use Rattle.steps.specs.Kept.{Laid, zerosT, zerosF}
@@ -32,7 +32,7 @@ use Rattle.laws.specs.Probes.{wordsOf, beforeC, pass-true, quiet-F}
 abbrev home : Point
 home = record { x = zeroF; y = zeroF }
 
-home-row : (q : LayoutInput) (o : LayoutOutput) (p : Probe) → laidRow q o p ≡ putAt home 0 (laidRow q o p)
+home-row : (q : LayoutInput) (o : LayoutOutput) (p : ProbeWords) → laidRow q o p ≡ putAt home 0 (laidRow q o p)
 unfolding laidRow putAt
 home-row q o p = refl
 
@@ -59,7 +59,7 @@ full-T t u e = joint-T again cellIn fullOf bothIn againN (λ l n _. refl) again-
 same-seen : (l : Full) (n : Node) → wasSite (l .both) ≡ siteOf n → oldWords l ≡ n .probe → viewN wasF oldWords l ≡ bareN n
 same-seen l n p q = go (wasSite (l .both)) (siteOf n) (oldWords l) (n .probe) p q
   where
-    go : (a b : Site) (x y : Probe) → a ≡ b → x ≡ y → _≡_ {A = Node} (record { site = a; old = noRow; probe = x; anew = false }) (record { site = b; old = noRow; probe = y; anew = false })
+    go : (a b : Site) (x y : ProbeWords) → a ≡ b → x ≡ y → _≡_ {A = Node} (record { site = a; old = noRow; probe = x; anew = false }) (record { site = b; old = noRow; probe = y; anew = false })
     go a b x y p q = rw (p, q)
 
 sound-kids : (j : Tree Full) (u : Tree Node) → mapT againN j ≡ u → AllT HonestL j → LeavesT (mapT siteF j) → (q : LayoutInput) (found : Float) → RowsT wasF oldWords j q found home 0 → SoundF (kidsT u)
@@ -85,7 +85,7 @@ leaf-kids (node n us) q found b = ap kidsT (leaf-rows n us q found b) ∙ sym (z
 
 zeros-quiet : (ts : Forest Both) → mapF probeOf (zerosF ts) ≡ mapF (λ (_ : Both). noProbe) ts
 unfolding zerosF
-zeros-quiet ts = map-mapF probeOf (λ (_ : Both). noRow) ts ∙ ap (λ (p : Probe). mapF (λ (_ : Both). p) ts) zero-words
+zeros-quiet ts = map-mapF probeOf (λ (_ : Both). noRow) ts ∙ ap (λ (p : ProbeWords). mapF (λ (_ : Both). p) ts) zero-words
 
 -- the page as it was, laid out at q
 module _ (l : Both) (ks : Forest Both) (q : LayoutInput) where

@@ -12,16 +12,16 @@ use Rattle.length.specs.declared.AvailableSpace.{AvailableSpace}
 use Rattle.style.specs.declared.Style.{Style}
 use Rattle.tree.specs.Tree.{Tree, Forest, node, none, more, mapT, mapF, rootT, onRoot}
 use Rattle.tree.proofs.Laws.{mapT-node, mapF-none, mapF-more, rootT-map, map-mapF}
-use Rattle.steps.specs.Width.{isLeaf, flowOf, stepF, wantIn}
-use Rattle.steps.specs.Edges.{isIn}
-use Rattle.steps.specs.Stack.{stepJ, lineOf, edgesOf, pastAside, pastHidden}
-use Rattle.steps.specs.Row.{Row, Probe, bare, noRow, noProbe, hiddenRow, asideRow, laidRow, putAt, lowered, probeOf}
+use Rattle.style.specs.Flow.{isLeaf, flowOf, isIn}
+use Rattle.steps.specs.Width.{wantOf, wantIn}
+use Rattle.steps.specs.Stack.{questionTo, lineOf, edgesOf, pastAside, pastHidden}
+use Rattle.steps.specs.Row.{Row, ProbeWords, bare, noRow, noProbe, hiddenRow, asideRow, laidRow, putAt, lowered, probeOf}
 use Rattle.steps.specs.Page.{Cell, Node, cleared, probedAnew}
 use Rattle.steps.specs.Probe.{Widest, probeT, probeF, asked, blockProbe, probeKnown, widen, passBy, widthPass}
 use Rattle.steps.specs.Kept.{zerosT, zerosF}
 use Rattle.steps.specs.Layout.{layT, layF, skip, aside, place, lowerF, alignF}
-use Rattle.steps.specs.declared.Flow.{Flow}
-use Rattle.steps.specs.declared.Flow.the-variants.{Gone, Out, In}
+use Rattle.style.specs.declared.Flow.{Flow}
+use Rattle.style.specs.declared.Flow.the-variants.{Gone, Out, In}
 use Rattle.steps.specs.declared.Want.{Want}
 use Rattle.steps.specs.declared.Want.the-variants.{Nothing, Outer}
 use Rattle.steps.specs.declared.Want.the-variants as want
@@ -82,7 +82,7 @@ mutual
   unfolding AllT mapT
 
   mute-T : (t : Tree Node) → AllT Mute t → mapT probeIn t ≡ mapT (λ (_ : Node). noProbe) t
-  mute-T (node n ks) h = ap (λ (p : Probe). node p (mapF probeIn ks)) (h .0) ∙ ap (node noProbe) (mute-F ks (h .1))
+  mute-T (node n ks) h = ap (λ (p : ProbeWords). node p (mapF probeIn ks)) (h .0) ∙ ap (node noProbe) (mute-F ks (h .1))
 
   mute-F : (ts : Forest Node) → AllF Mute ts → mapF probeIn ts ≡ mapF (λ (_ : Node). noProbe) ts
   mute-F none h = refl
@@ -90,11 +90,11 @@ mutual
 
 zeros-words-F : (ts : Forest Node) → mapF probeOf (zerosF ts) ≡ mapF (λ (_ : Node). noProbe) ts
 unfolding zerosF
-zeros-words-F ts = map-mapF probeOf (λ (_ : Node). noRow) ts ∙ ap (λ (p : Probe). mapF (λ (_ : Node). p) ts) zero-words
+zeros-words-F ts = map-mapF probeOf (λ (_ : Node). noRow) ts ∙ ap (λ (p : ProbeWords). mapF (λ (_ : Node). p) ts) zero-words
 
 zeros-words : (r : Row) → probeOf r ≡ noProbe → (t : Tree Node) → mapT probeOf (onRoot (λ _. r) (zerosT t)) ≡ mapT (λ (_ : Node). noProbe) t
 unfolding onRoot zerosT mapT
-zeros-words r e (node n ks) = rw e (ap (node noProbe) (map-mapF probeOf (λ (_ : Node). noRow) ks ∙ ap (λ (p : Probe). mapF (λ (_ : Node). p) ks) zero-words))
+zeros-words r e (node n ks) = rw e (ap (node noProbe) (map-mapF probeOf (λ (_ : Node). noRow) ks ∙ ap (λ (p : ProbeWords). mapF (λ (_ : Node). p) ks) zero-words))
 
 well-parts : (n : Node) (ks : Forest Node) → WellT (node n ks) → (n .probe .code < 16) × (isLeaf (n .site .style .kind) ≡ true → AllF Mute ks) × WellF ks
 unfolding WellT
@@ -108,7 +108,7 @@ ride-node n ks v q found h = ap (λ (t : Tree Node). mapT probeOf (layT t q foun
     w = well-parts n ks v
 
     top : (us : Forest Row) → mapT probeOf (node (laidRow q (layT (node (bareN n) (mapF bareN ks)) q found .out) (n .probe)) us) ≡ node (n .probe) (mapF probeOf us)
-    top us = mapT-node probeOf _ us ∙ ap (λ (p : Probe). node p (mapF probeOf us)) (words-row q _ (n .probe) (w .0))
+    top us = mapT-node probeOf _ us ∙ ap (λ (p : ProbeWords). node p (mapF probeOf us)) (words-row q _ (n .probe) (w .0))
 
     go : (b : Bool) → isLeaf (n .site .style .kind) ≡ b → mapT probeOf (layT (node (bareN n) (mapF bareN ks)) q found .rows) ≡ node (n .probe) (mapF probeIn ks)
     go true e =
@@ -133,7 +133,7 @@ ride-more t ts f c m h r = rw (mapF-more bareN t ts, mapF-more probeIn t ts) (go
         let z : mapT probeIn t ≡ mapT (λ (_ : Node). noProbe) t = mute-T t (m (ap isIn e)) in
         rw (layF-out (mapT bareN t) (mapF bareN ts) f c (same e), mapF-more, zeros-T bareN t, zeros-words _ (aside-words (edgesOf f .start) (lineOf f c) (edgesOf f .end) (c .shown .0)) t, r (pastAside c), z)
     go In e =
-        rw (layF-in (mapT bareN t) (mapF bareN ts) f c (same e), mapF-more, ask-bare t (stepJ f (styleT (mapT bareN t))), put-words, h (stepJ f (styleT (mapT bareN t))), r _)
+        rw (layF-in (mapT bareN t) (mapF bareN ts) f c (same e), mapF-more, ask-bare t (questionTo f (styleT (mapT bareN t))), put-words, h (questionTo f (styleT (mapT bareN t))), r _)
 
 mutual
   unfolding WellT
@@ -199,8 +199,8 @@ none-well : WellF none
 unfolding WellF
 none-well = tt
 
-pub probed-in : (s : Style) (a : AvailableSpace) (q : ProbeInput) → stepF s a ≡ want.Probe q → isIn (flowOf s) ≡ true
-unfolding stepF wantIn
+pub probed-in : (s : Style) (a : AvailableSpace) (q : ProbeInput) → wantOf s a ≡ want.Probe q → isIn (flowOf s) ≡ true
+unfolding wantOf wantIn
 probed-in s a q e = go (flowOf s) e
   where
     go : (f : Flow) → wantIn f s a ≡ want.Probe q → isIn f ≡ true
@@ -217,9 +217,9 @@ style-probed t q = ap (λ (c : Cell). c .site .style) (sym (rootT-map cellIn (pr
 
 more-well : (t : Tree Cell) (ts : Forest Cell) (a : AvailableSpace) (m : Float) → ((q : ProbeInput) → WellT (probeT (mapT bareC t) q .nodes)) → ((k : Float) → WellF (probeF (mapF bareC ts) a k .nodes))
     → WellF (probeF (mapF bareC (more t ts)) a m .nodes)
-more-well t ts a m h r = rw (mapF-more bareC t ts) (go (stepF (styleC (mapT bareC t)) a) refl)
+more-well t ts a m h r = rw (mapF-more bareC t ts) (go (wantOf (styleC (mapT bareC t)) a) refl)
   where
-    go : (w : Want) → stepF (styleC (mapT bareC t)) a ≡ w → WellF (probeF (more (mapT bareC t) (mapF bareC ts)) a m .nodes)
+    go : (w : Want) → wantOf (styleC (mapT bareC t)) a ≡ w → WellF (probeF (more (mapT bareC t) (mapF bareC ts)) a m .nodes)
     go Nothing e = rw (probeF-at (mapT bareC t) (mapF bareC ts) a m Nothing e) (widen-well _ _ _ (λ _. mute-cleared-T (mapT bareC t)) (well-cleared-T (mapT bareC t)) r)
     go (Outer v) e = rw (probeF-at (mapT bareC t) (mapF bareC ts) a m (Outer v) e) (widen-well _ _ _ (λ _. mute-cleared-T (mapT bareC t)) (well-cleared-T (mapT bareC t)) r)
     go (want.Probe q) e =

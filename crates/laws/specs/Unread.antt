@@ -11,16 +11,17 @@ use Rattle.length.specs.declared.AvailableSpace.{AvailableSpace}
 use Rattle.style.specs.declared.Style.{Style}
 use Rattle.tree.specs.Tree.{Tree, Forest, node, none, more, mapT, mapF, rootT}
 use Rattle.tree.proofs.Laws.{mapT-node, mapF-more, rootT-map, map-mapT, map-mapF}
-use Rattle.steps.specs.Width.{isLeaf, flowOf, stepF, outerWidth}
+use Rattle.style.specs.Flow.{isLeaf, flowOf, isIn}
+use Rattle.steps.specs.Width.{wantOf, outerWidth}
 use Rattle.steps.specs.Sizing.{stepA, knownOf}
-use Rattle.steps.specs.Edges.{isIn, frameOf}
-use Rattle.steps.specs.Stack.{stepJ}
-use Rattle.steps.specs.Row.{Row, Probe, noProbe, probeOf}
+use Rattle.steps.specs.Edges.{frameOf}
+use Rattle.steps.specs.Stack.{questionTo}
+use Rattle.steps.specs.Row.{Row, ProbeWords, noProbe, probeOf}
 use Rattle.steps.specs.Page.{Cell, Node, anyT, edits, cleared, staying, probedAnew}
-use Rattle.steps.specs.Probe.{Probed, Widest, Passed, answered, stay, probeT, probeF, asked, blockProbe, probeKnown, spaceIn, widthFrom, widen, passBy, widthPass, askP}
+use Rattle.steps.specs.Probe.{Probed, Widest, Passed, answered, stay, probeT, probeF, asked, blockProbe, probeKnown, spaceIn, foundWidth, widen, passBy, widthPass, askP}
 use Rattle.steps.specs.Kept.{kept, editedNode}
-use Rattle.steps.specs.declared.Flow.{Flow}
-use Rattle.steps.specs.declared.Flow.the-variants.{Gone, Out, In}
+use Rattle.style.specs.declared.Flow.{Flow}
+use Rattle.style.specs.declared.Flow.the-variants.{Gone, Out, In}
 use Rattle.steps.specs.declared.Want.{Want}
 use Rattle.steps.specs.declared.Want.the-variants.{Nothing, Outer}
 use Rattle.steps.specs.declared.Want.the-variants as want
@@ -36,7 +37,7 @@ use Rattle.laws.specs.Marks.{marksOf, below-more, below-top, below-leaf,
 
 -- what the width pass gives a node
 pub record Given : Type 0 where
-  pub probe : Probe
+  pub probe : ProbeWords
   pub anew : Bool
 
 abbrev pub givenIn : Node → Given
@@ -81,7 +82,7 @@ answered-same t q = rw (edits-T t, same-old t)
 stay-same : (t : Tree Two) → AlikeP (stay (mapT page1 t)) (stay (mapT page2 t))
 unfolding stay staying
 stay-same t = record {
-  same-answer = ap (λ (r : Row). r .answer) (same-old t);
+  same-answer = ap (λ (r : Row). r .probe .answer) (same-old t);
   same-given =
       map-mapT givenIn staying (mapT page1 t) ∙ map-mapT (λ (c : Cell). record { probe = probeOf (c .old); anew = false }) page1 t
       ∙ sym (map-mapT givenIn staying (mapT page2 t) ∙ map-mapT (λ (c : Cell). record { probe = probeOf (c .old); anew = false }) page2 t);
@@ -119,8 +120,8 @@ is-in Out e = cc
 is-in In e = refl
 
 -- so its marks are those of a container that is laid out
-anew-marks : (t : Tree Cell) (a : AvailableSpace) (q : ProbeInput) (f : Frame) → stepF (styleC t) a ≡ want.Probe q
-    → marksOf (probeT t q .nodes) f ≡ belowT (probeT t q .nodes) (stepJ f (styleT (probeT t q .nodes))) zeroF
+anew-marks : (t : Tree Cell) (a : AvailableSpace) (q : ProbeInput) (f : Frame) → wantOf (styleC t) a ≡ want.Probe q
+    → marksOf (probeT t q .nodes) f ≡ belowT (probeT t q .nodes) (questionTo f (styleT (probeT t q .nodes))) zeroF
 anew-marks t a q f e =
     let i : flowOf (styleT (probeT t q .nodes)) ≡ In = is-in _ (ap (λ (s : Style). isIn (flowOf s)) (style-probed t q) ∙ probed-in _ a q e) in
     marks-at _ f In i ∙ marks-laid _ f (anew-kept _ _ (probed-anew t q))
@@ -132,7 +133,7 @@ asked-same l q a b us vs p e = record { same-answer = p; same-given = rw (p, e) 
 
 box-same : (l : Cell) (q : ProbeInput) (ks : Forest Two) (w : OptionF32) (r s : Widest) → (w ≡ None → AlikeW r s) → AlikeP (blockProbe l q (mapF page1 ks) w r) (blockProbe l q (mapF page2 ks) w s)
 unfolding blockProbe
-box-same l q ks None r s h = asked-same l q _ _ _ _ (ap (widthFrom (l .site .style) None) (h refl .same-most)) (h refl .same-given)
+box-same l q ks None r s h = asked-same l q _ _ _ _ (ap (foundWidth (l .site .style) None) (h refl .same-most)) (h refl .same-given)
 box-same l q ks (Some w) r s h = asked-same l q w w _ _ refl (cleared-F ks)
 
 -- below it: its children's marks, where F asked them
@@ -202,7 +203,7 @@ module _ (t : Tree Two) (ts : Forest Two) (a : AvailableSpace) (m : Float) (f : 
   one-style : (k : Float) (u : Tree Node) → probeF (more (mapT page1 t) (mapF page1 ts)) a m ≡ widen k u (probeF (mapF page1 ts) a) → styleC (mapT page1 t) ≡ styleC (mapT page2 t)
   one-style k u p = same-style t agree (top-below t _ (child-marks k u p) (marks-top u f))
 
-  reply-same : (q : ProbeInput) → stepF (styleC (mapT page1 t)) a ≡ want.Probe q → mapT belowOf t ≡ marksOf (askP (mapT page1 t) q .nodes) f
+  reply-same : (q : ProbeInput) → wantOf (styleC (mapT page1 t)) a ≡ want.Probe q → mapT belowOf t ≡ marksOf (askP (mapT page1 t) q .nodes) f
       → ((g : LayoutInput) → mapT belowOf t ≡ belowT (probeT (mapT page1 t) q .nodes) g zeroF → AlikeP (probeT (mapT page1 t) q) (probeT (mapT page2 t) q))
       → AlikeP (askP (mapT page1 t) q) (askP (mapT page2 t) q)
   reply-same q w d ht = go (answered (mapT page1 t) q) refl
@@ -216,12 +217,12 @@ module _ (t : Tree Two) (ts : Forest Two) (a : AvailableSpace) (m : Float) (f : 
   more-same : ((q : ProbeInput) (g : LayoutInput) → mapT belowOf t ≡ belowT (probeT (mapT page1 t) q .nodes) g zeroF → AlikeP (probeT (mapT page1 t) q) (probeT (mapT page2 t) q))
       → ((k : Float) → mapF belowOf ts ≡ belowF (probeF (mapF page1 ts) a k .nodes) f → AlikeW (probeF (mapF page1 ts) a k) (probeF (mapF page2 ts) a k))
       → AlikeW (probeF (mapF page1 (more t ts)) a m) (probeF (mapF page2 (more t ts)) a m)
-  more-same ht hts = rw (mapF-more page1 t ts, mapF-more page2 t ts) (go (stepF (styleC (mapT page1 t)) a) refl)
+  more-same ht hts = rw (mapF-more page1 t ts, mapF-more page2 t ts) (go (wantOf (styleC (mapT page1 t)) a) refl)
     where
-      also : (k : Float) (u : Tree Node) (w : Want) → probeF (more (mapT page1 t) (mapF page1 ts)) a m ≡ widen k u (probeF (mapF page1 ts) a) → stepF (styleC (mapT page1 t)) a ≡ w → stepF (styleC (mapT page2 t)) a ≡ w
-      also k u w p d = ap (λ (s : Style). stepF s a) (sym (one-style k u p)) ∙ d
+      also : (k : Float) (u : Tree Node) (w : Want) → probeF (more (mapT page1 t) (mapF page1 ts)) a m ≡ widen k u (probeF (mapF page1 ts) a) → wantOf (styleC (mapT page1 t)) a ≡ w → wantOf (styleC (mapT page2 t)) a ≡ w
+      also k u w p d = ap (λ (s : Style). wantOf s a) (sym (one-style k u p)) ∙ d
 
-      go : (w : Want) → stepF (styleC (mapT page1 t)) a ≡ w → AlikeW (probeF (more (mapT page1 t) (mapF page1 ts)) a m) (probeF (more (mapT page2 t) (mapF page2 ts)) a m)
+      go : (w : Want) → wantOf (styleC (mapT page1 t)) a ≡ w → AlikeW (probeF (more (mapT page1 t) (mapF page1 ts)) a m) (probeF (more (mapT page2 t) (mapF page2 ts)) a m)
       go Nothing d =
           let p = probeF-at (mapT page1 t) (mapF page1 ts) a m Nothing d in
           rw (p, probeF-at (mapT page2 t) (mapF page2 ts) a m Nothing (also _ _ Nothing p d)) (widen-same _ _ _ _ _ _ refl (cleared-T t) (hts _ (rest-marks _ _ p)))

@@ -10,10 +10,11 @@ use Rattle.length.specs.declared.AvailableSpace.{AvailableSpace}
 use Rattle.style.specs.declared.Style.{Style}
 use Rattle.tree.specs.Tree.{Tree, Forest, node, none, more, mapT, mapF}
 use Rattle.tree.proofs.Laws.{mapT-node, mapF-none, mapF-more, rootT-node, rootT-map, map-mapT, map-mapF}
-use Rattle.steps.specs.Width.{isLeaf, stepF, outerWidth}
-use Rattle.steps.specs.Row.{Probe, noRow, noProbe}
+use Rattle.style.specs.Flow.{isLeaf}
+use Rattle.steps.specs.Width.{wantOf, outerWidth}
+use Rattle.steps.specs.Row.{ProbeWords, noRow, noProbe}
 use Rattle.steps.specs.Page.{Cell, Node, cleared, probedAnew}
-use Rattle.steps.specs.Probe.{Probed, Widest, Passed, probeStands, answered, stay, probeT, probeF, asked, blockProbe, probeKnown, spaceIn, widthFrom, widen, passBy, widthPass, askP}
+use Rattle.steps.specs.Probe.{Probed, Widest, Passed, probeStands, answered, stay, probeT, probeF, asked, blockProbe, probeKnown, spaceIn, foundWidth, widen, passBy, widthPass, askP}
 use Rattle.steps.specs.declared.Want.{Want}
 use Rattle.steps.specs.declared.Want.the-variants.{Nothing, Outer}
 use Rattle.steps.specs.declared.Want.the-variants as want
@@ -28,7 +29,7 @@ use Rattle.laws.specs.Final.{unmarked}
 abbrev pub bareC : Cell → Cell
 bareC c = record { site = unmarked (c .site); old = noRow }
 
-abbrev pub probeIn : Node → Probe
+abbrev pub probeIn : Node → ProbeWords
 probeIn n = n .probe
 
 -- the same answer and the same probe words
@@ -88,7 +89,7 @@ asked-alike l q a b ks us p e = record { same-answer = p; same-words = rw (p, e)
 
 box-alike : (l : Cell) (q : ProbeInput) (ks : Forest Cell) (w : OptionF32) (r s : Widest) → AlikeW r s → AlikeP (blockProbe l q ks w r) (blockProbe (bareC l) q (mapF bareC ks) w s)
 unfolding blockProbe
-box-alike l q ks None r s h = asked-alike l q _ _ _ _ (ap (widthFrom (l .site .style) None) (h .same-most)) (h .same-words)
+box-alike l q ks None r s h = asked-alike l q _ _ _ _ (ap (foundWidth (l .site .style) None) (h .same-most)) (h .same-words)
 box-alike l q ks (Some w) r s h = asked-alike l q w w _ _ refl (sym (cleared-F bareC ks))
 
 node-alike : (l : Cell) (ks : Forest Cell) (q : ProbeInput) → ((a : AvailableSpace) (m : Float) → AlikeW (probeF ks a m) (probeF (mapF bareC ks) a m))
@@ -108,12 +109,12 @@ widen-alike m n t u g h p e r = record { same-most = rw p (r n .same-most); same
 
 more-alike : (t : Tree Cell) (ts : Forest Cell) (a : AvailableSpace) (m : Float) → ((q : ProbeInput) → AlikeP (askP t q) (askP (mapT bareC t) q))
     → ((k : Float) → AlikeW (probeF ts a k) (probeF (mapF bareC ts) a k)) → AlikeW (probeF (more t ts) a m) (probeF (mapF bareC (more t ts)) a m)
-more-alike t ts a m h r = rw (mapF-more bareC t ts) (go (stepF (styleC t) a) refl)
+more-alike t ts a m h r = rw (mapF-more bareC t ts) (go (wantOf (styleC t) a) refl)
   where
-    same : {w : Want} → stepF (styleC t) a ≡ w → stepF (styleC (mapT bareC t)) a ≡ w
-    same e = ap (λ (s : Style). stepF s a) (style-bare t) ∙ e
+    same : {w : Want} → wantOf (styleC t) a ≡ w → wantOf (styleC (mapT bareC t)) a ≡ w
+    same e = ap (λ (s : Style). wantOf s a) (style-bare t) ∙ e
 
-    go : (w : Want) → stepF (styleC t) a ≡ w → AlikeW (probeF (more t ts) a m) (probeF (more (mapT bareC t) (mapF bareC ts)) a m)
+    go : (w : Want) → wantOf (styleC t) a ≡ w → AlikeW (probeF (more t ts) a m) (probeF (more (mapT bareC t) (mapF bareC ts)) a m)
     go Nothing e = rw (probeF-at t ts a m Nothing e, probeF-at (mapT bareC t) (mapF bareC ts) a m Nothing (same e)) (widen-alike _ _ _ _ _ _ refl (sym (cleared-T bareC t)) r)
     go (Outer v) e = rw (probeF-at t ts a m (Outer v) e, probeF-at (mapT bareC t) (mapF bareC ts) a m (Outer v) (same e)) (widen-alike _ _ _ _ _ _ refl (sym (cleared-T bareC t)) r)
     go (want.Probe q) e =

@@ -13,16 +13,16 @@ use Rattle.util.specs.declared.OptionF32.{OptionF32}
 use Rattle.util.specs.declared.OptionF32.the-variants.{None, Some}
 use Rattle.limits.specs.Bools.{and-fst, and-snd}
 use Rattle.tree.specs.Tree.{Tree, Forest, node, none, more, countT, mapT, mapF, onRoot, rootT}
-use Rattle.steps.specs.Width.{isLeaf, flowOf}
-use Rattle.steps.specs.Stack.{stepJ, itemOf, placeOf, stepped, edgesOf, lineOf, pastAside, pastHidden}
+use Rattle.style.specs.Flow.{isLeaf, flowOf}
+use Rattle.steps.specs.Stack.{questionTo, itemOf, placeOf, stepped, edgesOf, lineOf, pastAside, pastHidden}
 use Rattle.steps.specs.Row.{Row, bare, noRow, hiddenRow, asideRow, noted, withCode, putAt, lowered, isLaid, isOut}
 use Rattle.steps.specs.Page.{Cell, Node, anyT}
 use Rattle.steps.specs.Probe.{widthPass}
 use Rattle.steps.specs.Kept.{finalStands, editedNode, kept, keep, keptRow, laidBits, belowRow, fixT, fixF, zerosT, zerosF}
 use Rattle.steps.specs.Layout.{Stacked, layT, layF, askT, skip, aside, place, lowerF, alignF, relaid}
 use Rattle.steps.specs.Candidates.{Candidate, candidateOf, movedBy, candidatesAt, candidates, candidatesT, candidatesF, neededT, neededF, needed}
-use Rattle.steps.specs.declared.Flow.{Flow}
-use Rattle.steps.specs.declared.Flow.the-variants.{Gone, Out, In}
+use Rattle.style.specs.declared.Flow.{Flow}
+use Rattle.style.specs.declared.Flow.the-variants.{Gone, Out, In}
 use Rattle.steps.specs.declared.LayoutInput.{LayoutInput}
 use Rattle.steps.specs.declared.Frame.{Frame}
 use Rattle.steps.specs.declared.Cursor.{Cursor}
@@ -211,9 +211,9 @@ more-outs t ts f c h r o = rw (want-more t ts) (go (flowOf (styleT t)) refl)
         let n = o e in
         rw (layF-out t ts f c e, outs-more, on-zeros (asideRow (edgesOf f .start) (lineOf f c) (edgesOf f .end) (c .shown .0)) t 1 (aside-outs _ _ _ _), n) (omega (arith, a))
     go In e =
-        let a = h e (stepJ f (styleT t)) in
-        let b = r (stepped f c (itemOf f (styleT t)) (askT t (stepJ f (styleT t)) .out)) in
-        rw (layF-in t ts f c e, outs-more, outs-on (putAt (placeOf f c (itemOf f (styleT t)) (askT t (stepJ f (styleT t)) .out)) (c .shown .0)) (put-bits _ _) (askT t (stepJ f (styleT t)) .rows)) (omega (arith, a, b))
+        let a = h e (questionTo f (styleT t)) in
+        let b = r (stepped f c (itemOf f (styleT t)) (askT t (questionTo f (styleT t)) .out)) in
+        rw (layF-in t ts f c e, outs-more, outs-on (putAt (placeOf f c (itemOf f (styleT t)) (askT t (questionTo f (styleT t)) .out)) (c .shown .0)) (put-bits _ _) (askT t (questionTo f (styleT t)) .rows)) (omega (arith, a, b))
 
 want-out : (t : Tree Node) → flowOf (styleT t) ≡ Out → wantT t ≡ 1
 unfolding rootT

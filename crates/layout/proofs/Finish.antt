@@ -7,7 +7,7 @@ use native.Mathlib.Omega.{arith}
 use lib.ListN.{length, take, drop, replicate, length-append, length-map}
 use lib.Ieee.{Float}
 use Rattle.geometry.specs.Geometry.{zeroF}
-use Rattle.margin.specs.declared.NodeId.{NodeId}
+use Rattle.tree.specs.declared.NodeId.{NodeId}
 use Rattle.tree.specs.Tree.{Tree, Forest, node, none, more, countT, countF, flatT}
 use Rattle.tree.proofs.Laws.{countT-node, countF-none, countF-more, length-flatT}
 use Rattle.steps.specs.Row.{Row, isLaid, isOut}

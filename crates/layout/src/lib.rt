@@ -6,11 +6,11 @@ ghost use Rattle.steps.specs.Scan.{lowest};
 ghost use Rattle.steps.specs.Noes.{badRow};
 ghost use Rattle.layout.specs.Public.{Replied, IsPage, Finishes, IsCells, Relays};
 ghost use Rattle.steps.specs.Results.{layoutResult, relayoutResult};
-use margin::NodeId;
 use steps::Answer;
 use steps::Found;
 use steps::LayoutInput;
 use steps::Tested;
+use tree::NodeId;
 
 // Is one of the numbers 0-13 of row i too large?
 fn row_large(rows: &[f32], i: usize) -> bool

@@ -1,5 +1,6 @@
 -- The available width: definite, min-content or max-content.
-use lib.Ieee.{Float, sub, binary32}
+use lib.Ieee.{Float}
+use Rattle.geometry.specs.Floats.{_⊖_}
 use Rattle.util.specs.declared.OptionF32.{OptionF32}
 use Rattle.util.specs.declared.OptionF32.the-variants.{None, Some}
 use Rattle.length.specs.declared.AvailableSpace.{AvailableSpace}
@@ -7,7 +8,7 @@ use Rattle.length.specs.declared.AvailableSpace.the-variants.{Definite, 
 
 -- a definite width loses x
 unfoldable pub availableLess : AvailableSpace → Float → AvailableSpace
-availableLess (Definite a) x = Definite (sub binary32 a x)
+availableLess (Definite a) x = Definite (a ⊖ x)
 availableLess MinContent x = MinContent
 availableLess MaxContent x = MaxContent
 

@@ -1,6 +1,7 @@
 -- A length is auto, a number of pixels or a fraction of a basis.
 use mathlib.Core.Bool.{Bool, true, false}
-use lib.Ieee.{Float, mul, binary32}
+use lib.Ieee.{Float}
+use Rattle.geometry.specs.Floats.{_⊗_}
 use Rattle.geometry.specs.declared.Rect.{Rect}
 use Rattle.util.specs.Maybe.{orZero}
 use Rattle.util.specs.declared.OptionF32.{OptionF32}
@@ -14,7 +15,7 @@ use Rattle.length.specs.declared.LengthSize.{LengthSize}
 -- fraction times basis; no basis gives none
 unfoldable pub scaled : Float → OptionF32 → OptionF32
 scaled f None = None
-scaled f (Some b) = Some (mul binary32 f b)
+scaled f (Some b) = Some (f ⊗ b)
 
 -- a size: none where it is auto or has no basis
 unfoldable pub resolved : Length → OptionF32 → OptionF32

@@ -84,14 +84,14 @@ knownHex (value.Is w) = side.Is (Some (floatOf w))
 unfoldable pub knownField : List ℕ → Known
 knownField s = cond (same none s) (side.Is None) (knownHex (hexOf s))
 
-unfoldable pub knownOf : Known → Known → KnownLine
-knownOf side.Bad h = sides.Bad
-knownOf (side.Is w) side.Bad = sides.Bad
-knownOf (side.Is w) (side.Is h) = sides.Is (record { width = w; height = h })
+unfoldable pub knownLineOf : Known → Known → KnownLine
+knownLineOf side.Bad h = sides.Bad
+knownLineOf (side.Is w) side.Bad = sides.Bad
+knownLineOf (side.Is w) (side.Is h) = sides.Is (record { width = w; height = h })
 
 -- known= and two known sizes
 unfoldable pub knownText : List ℕ → KnownLine
-knownText s = fielded 2 s (knownOf (knownField (fieldOf s 0)) (knownField (fieldOf s 1))) sides.Bad
+knownText s = fielded 2 s (knownLineOf (knownField (fieldOf s 0)) (knownField (fieldOf s 1))) sides.Bad
 
 unfoldable pub knownLine : List ℕ → KnownLine
 knownLine l = keyed known= l knownText sides.Bad

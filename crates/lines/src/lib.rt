@@ -3,7 +3,7 @@ ghost use mathlib.Core.Path.{_≡_};
 ghost use lib.ListN.{drop};
 ghost use Rattle.text.specs.Pieces.{split, pieceAt};
 ghost use Rattle.text.specs.Values.{hexOf, valueOf};
-ghost use Rattle.lines.specs.Lines.{fieldOf, flagOf, knownField, nodesLine, parentLine, definiteOf, availText, availLine, knownOf, knownText, knownLine, flagsOf, flagsText, flagsLine, unitsOf, wordsOf, nodeText, nodeLine, numOf, numText, numLine};
+ghost use Rattle.lines.specs.Lines.{fieldOf, flagOf, knownField, nodesLine, parentLine, definiteOf, availText, availLine, knownLineOf, knownText, knownLine, flagsOf, flagsText, flagsLine, unitsOf, wordsOf, nodeText, nodeLine, numOf, numText, numLine};
 use length::AvailableSpace;
 use text::Value;
 use text::hex;
@@ -177,7 +177,7 @@ pub fn avail_line(s: &[u8]) -> AvailLine
 }
 
 fn known_of(w: Known, h: Known) -> KnownLine
-    ensures { λ r. ⌜ r ≡ knownOf w h ⌝ }
+    ensures { λ r. ⌜ r ≡ knownLineOf w h ⌝ }
 {
     match w {
         Known::Bad => KnownLine::Bad,

@@ -1,5 +1,6 @@
 -- A margin set is a pair: the largest positive and the smallest negative, each 0 if there is none.
-use lib.Ieee.{Float, add, binary32}
+use lib.Ieee.{Float}
+use Rattle.geometry.specs.Floats.{_⊕_}
 use Rattle.geometry.specs.Geometry.{zeroF}
 use Rattle.util.specs.Math.{larger, smaller}
 use Rattle.margin.specs.declared.CollapsibleMarginSet.{CollapsibleMarginSet}
@@ -21,4 +22,4 @@ joinedWith a m = joined a (setOf m)
 
 -- positive + negative
 unfoldable pub sumOf : CollapsibleMarginSet → Float
-sumOf a = add binary32 (a .positive) (a .negative)
+sumOf a = a .positive ⊕ a .negative

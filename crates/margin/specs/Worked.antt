@@ -1,8 +1,7 @@
 -- The sums (4), (5) and (6) of document 01's checked pages, worked out by the checker.
 use mathlib.Core.Path.{_≡_, refl}
-use mathlib.Core.List.{List, [], _∷_}
+use mathlib.Core.List.{List, [], _∷_, map}
 use Prim.Native.Nat.{ℕ}
-use mathlib.Core.List.{map}
 use lib.Ieee.{Float, add, lt, ofBits, toBits, binary32}
 use Rattle.util.specs.Math.{larger, smaller}
 use Rattle.margin.specs.Margin.{noMargins, setOf, joined, joinedWith, sumOf}

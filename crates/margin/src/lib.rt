@@ -1,4 +1,4 @@
-// Collapsible margins, and the two counts of this trade (the crate's src/tree).
+// Collapsible margins (the crate's src/tree/layout.rs).
 ghost use mathlib.Core.Path.{_≡_};
 ghost use Rattle.margin.specs.Margin.{noMargins, setOf, joined, joinedWith, sumOf};
 use util::f32_max;
@@ -49,8 +49,3 @@ impl CollapsibleMarginSet {
         self.positive + self.negative
     }
 }
-
-// A node's number in the tables, and its place among its shown siblings: never the one for the other.
-pub struct NodeId(pub u32);
-
-pub struct Order(pub u32);

@@ -6,7 +6,7 @@ use Rattle.steps.specs.Sizing.{stepA, stepB, stepD, knownOf}
 use Rattle.steps.specs.Page.{Site, blank}
 use Rattle.steps.specs.Probe.{widthPass}
 use Rattle.steps.specs.Layout.{relaid, fresh}
-use Rattle.steps.specs.Results.{stepC, sizeBelow, sizeOf}
+use Rattle.steps.specs.SizeQuestion.{stepC, sizeBelow, sizeOf}
 use Rattle.steps.specs.declared.LayoutInput.{LayoutInput}
 use Rattle.steps.specs.declared.LayoutOutput.{LayoutOutput}
 use Rattle.steps.specs.declared.RequestedAxis.{RequestedAxis}

@@ -9,14 +9,15 @@ use Rattle.util.specs.Math.{larger}
 use Rattle.util.specs.declared.OptionF32.the-variants.{None}
 use Rattle.length.specs.declared.AvailableSpace.{AvailableSpace}
 use Rattle.tree.specs.Tree.{Tree, Forest, node, none, more, rootT}
-use Rattle.steps.specs.Width.{isLeaf, flowOf, stepF, outerWidth, leafWidth}
+use Rattle.style.specs.Flow.{isLeaf, flowOf}
+use Rattle.steps.specs.Width.{wantOf, outerWidth, leafWidth}
 use Rattle.steps.specs.Edges.{frameOf}
-use Rattle.steps.specs.Stack.{startOf, itemOf, stepJ, stepped, pastAside, pastHidden}
-use Rattle.steps.specs.Height.{finished, leafOutput}
+use Rattle.steps.specs.Stack.{startOf, itemOf, questionTo, stepped, pastAside, pastHidden}
+use Rattle.steps.specs.Through.{finished, leafOutput}
 use Rattle.steps.specs.Page.{Site}
 use Rattle.steps.specs.Probe.{probeKnown, spaceIn}
-use Rattle.steps.specs.declared.Flow.{Flow}
-use Rattle.steps.specs.declared.Flow.the-variants.{Gone, Out, In}
+use Rattle.style.specs.declared.Flow.{Flow}
+use Rattle.style.specs.declared.Flow.the-variants.{Gone, Out, In}
 use Rattle.steps.specs.declared.Want.{Want}
 use Rattle.steps.specs.declared.Want.the-variants.{Nothing, Outer}
 use Rattle.steps.specs.declared.Want.the-variants as want
@@ -55,7 +56,7 @@ widthF-by t ts a m (want.Probe q) = refl
 
 pub widthF-more : (t : Tree Site) (ts : Forest Site) (a : AvailableSpace) (m : Float) → widthF (more t ts) a m ≡ widthF ts a (widened t a m)
 unfolding widthF widened
-widthF-more t ts a m = widthF-by t ts a m (stepF (rootT t .style) a)
+widthF-more t ts a m = widthF-by t ts a m (wantOf (rootT t .style) a)
 
 -- ---- the final pass
 sizeT-by : (l : Site) (ks : Forest Site) (q : LayoutInput) (w : Float) (b : Bool) → isLeaf (l .style .kind) ≡ b
@@ -77,7 +78,7 @@ unfolding sizeF
 sizeF-none f c = refl
 
 sizeF-by : (t : Tree Site) (ts : Forest Site) (f : Frame) (c : Cursor) (w : Flow)
-    → elim w [ Gone ↦ sizeF ts f (pastHidden c) | Out ↦ sizeF ts f (pastAside c) | In ↦ sizeF ts f (stepped f c (itemOf f (rootT t .style)) (sizeT t (stepJ f (rootT t .style)) zeroF)) ] ≡ sizeF ts f (pastBy w f c t)
+    → elim w [ Gone ↦ sizeF ts f (pastHidden c) | Out ↦ sizeF ts f (pastAside c) | In ↦ sizeF ts f (stepped f c (itemOf f (rootT t .style)) (sizeT t (questionTo f (rootT t .style)) zeroF)) ] ≡ sizeF ts f (pastBy w f c t)
 unfolding pastBy
 sizeF-by t ts f c Gone = refl
 sizeF-by t ts f c Out = refl
@@ -93,7 +94,7 @@ unfolding pastBy pastHidden pastAside
 counts-by f c t Gone = (refl, omega arith)
 counts-by f c t Out = (refl, omega arith)
 counts-by f c t In =
-    let h = stepped-counts f c (itemOf f (rootT t .style)) (sizeT t (stepJ f (rootT t .style)) zeroF) in
+    let h = stepped-counts f c (itemOf f (rootT t .style)) (sizeT t (questionTo f (rootT t .style)) zeroF) in
     (h .0, omega (arith, h .1))
 
 pub counts-more : (f : Frame) (c : Cursor) (t : Tree Site) → (pastT f c t .count ≡ c .count + 1) × (pastT f c t .shown .0 ≤ c .shown .0 + 1)

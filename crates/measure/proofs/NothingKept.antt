@@ -5,16 +5,16 @@ use lib.Ieee.{Float}
 use Rattle.geometry.specs.Geometry.{zeroF}
 use Rattle.tree.specs.Tree.{Tree, Forest, node, none, more, mapT, mapF, rootT}
 use Rattle.tree.proofs.Laws.{mapT-node, mapF-none, mapF-more, rootT-node, rootT-map}
-use Rattle.steps.specs.Width.{isLeaf, flowOf}
+use Rattle.style.specs.Flow.{isLeaf, flowOf}
 use Rattle.steps.specs.Edges.{frameOf}
-use Rattle.steps.specs.Stack.{startOf, itemOf, stepJ, stepped}
-use Rattle.steps.specs.Height.{finished}
+use Rattle.steps.specs.Stack.{startOf, itemOf, questionTo, stepped}
+use Rattle.steps.specs.Through.{finished}
 use Rattle.steps.specs.Row.{noRow, bare, isLaid}
 use Rattle.steps.specs.Page.{Site, Node, blank, cleared}
 use Rattle.steps.specs.Kept.{Laid, kept}
 use Rattle.steps.specs.Layout.{Stacked, leafLaid, blockLaid, layT, layF}
-use Rattle.steps.specs.declared.Flow.{Flow}
-use Rattle.steps.specs.declared.Flow.the-variants.{Gone, Out, In}
+use Rattle.style.specs.declared.Flow.{Flow}
+use Rattle.style.specs.declared.Flow.the-variants.{Gone, Out, In}
 use Rattle.steps.specs.declared.LayoutInput.{LayoutInput}
 use Rattle.steps.specs.declared.Frame.{Frame}
 use Rattle.steps.specs.declared.Cursor.{Cursor}
@@ -79,7 +79,7 @@ pub none-kept : (t : Tree Node) (q : LayoutInput) → BareT t → kept t q ≡ f
 none-kept t q h = unlaid-kept t q (ap isLaid (root-bare t h) ∙ no-row)
 
 -- ---- the final pass
-lay-node : (l : Node) (ks : Forest Node) (q : LayoutInput) (w : Float) (v : Bool) → isLeaf (l .site .style .kind) ≡ v → ((f : Frame) (c : Cursor) → sizeF (mapF siteIn ks) f c ≡ layF ks f c .end)
+lay-node : (l : Node) (ks : Forest Node) (q : LayoutInput) (w : Float) (v : Bool) → isLeaf (l .site .style .kind) ≡ v → ((f : Frame) (c : Cursor) → sizeF (mapF siteIn ks) f c ≡ layF ks f c .last)
     → sizeT (mapT siteIn (node l ks)) q w ≡ layT (node l ks) q w .out
 unfolding leafLaid blockLaid
 lay-node l ks q w true e h = ap (λ (t : Tree Site). sizeT t q w) (mapT-node siteIn l ks) ∙ sizeT-leaf (l .site) (mapF siteIn ks) q w e ∙ sym (ap (λ (z : Laid). z .out) (layT-leaf l ks q w e))
@@ -91,24 +91,24 @@ lay-node l ks q w false e h =
 root-site : (t : Tree Node) → rootT (mapT siteIn t) ≡ rootT t .site
 root-site t = rootT-map siteIn t
 
-past-by : (w : Flow) (f : Frame) (c : Cursor) (t : Tree Node) → BareT t → ((q : LayoutInput) (m : Float) → sizeT (mapT siteIn t) q m ≡ layT t q m .out) → pastBy w f c (mapT siteIn t) ≡ placedBy w f c t .end
+past-by : (w : Flow) (f : Frame) (c : Cursor) (t : Tree Node) → BareT t → ((q : LayoutInput) (m : Float) → sizeT (mapT siteIn t) q m ≡ layT t q m .out) → pastBy w f c (mapT siteIn t) ≡ placedBy w f c t .last
 unfolding pastBy placedBy placedIn
 past-by Gone f c t b h = refl
 past-by Out f c t b h = refl
 past-by In f c t b h =
-    let q = stepJ f (rootT t .site .style) in
-    ap (λ (z : Site). stepped f c (itemOf f (z .style)) (sizeT (mapT siteIn t) (stepJ f (z .style)) zeroF)) (root-site t)
+    let q = questionTo f (rootT t .site .style) in
+    ap (λ (z : Site). stepped f c (itemOf f (z .style)) (sizeT (mapT siteIn t) (questionTo f (z .style)) zeroF)) (root-site t)
     ∙ ap (stepped f c (itemOf f (rootT t .site .style))) (h q zeroF ∙ sym (ap (λ (z : Laid). z .out) (askT-new t q (none-kept t q b))))
 
-past-of : (f : Frame) (c : Cursor) (t : Tree Node) → BareT t → ((q : LayoutInput) (m : Float) → sizeT (mapT siteIn t) q m ≡ layT t q m .out) → pastT f c (mapT siteIn t) ≡ placedT f c t .end
+past-of : (f : Frame) (c : Cursor) (t : Tree Node) → BareT t → ((q : LayoutInput) (m : Float) → sizeT (mapT siteIn t) q m ≡ layT t q m .out) → pastT f c (mapT siteIn t) ≡ placedT f c t .last
 unfolding pastT placedT
 past-of f c t b h = ap (λ (z : Site). pastBy (flowOf (z .style)) f c (mapT siteIn t)) (root-site t) ∙ past-by (flowOf (rootT t .site .style)) f c t b h
 
-lay-more : (t : Tree Node) (ts : Forest Node) (f : Frame) (c : Cursor) → pastT f c (mapT siteIn t) ≡ placedT f c t .end → ((d : Cursor) → sizeF (mapF siteIn ts) f d ≡ layF ts f d .end)
-    → sizeF (mapF siteIn (more t ts)) f c ≡ layF (more t ts) f c .end
+lay-more : (t : Tree Node) (ts : Forest Node) (f : Frame) (c : Cursor) → pastT f c (mapT siteIn t) ≡ placedT f c t .last → ((d : Cursor) → sizeF (mapF siteIn ts) f d ≡ layF ts f d .last)
+    → sizeF (mapF siteIn (more t ts)) f c ≡ layF (more t ts) f c .last
 lay-more t ts f c e h =
-    ap (λ (us : Forest Site). sizeF us f c) (mapF-more siteIn t ts) ∙ sizeF-more (mapT siteIn t) (mapF siteIn ts) f c ∙ ap (sizeF (mapF siteIn ts) f) e ∙ h (placedT f c t .end)
-    ∙ sym (ap (λ (z : Stacked). z .end) (layF-more t ts f c))
+    ap (λ (us : Forest Site). sizeF us f c) (mapF-more siteIn t ts) ∙ sizeF-more (mapT siteIn t) (mapF siteIn ts) f c ∙ ap (sizeF (mapF siteIn ts) f) e ∙ h (placedT f c t .last)
+    ∙ sym (ap (λ (z : Stacked). z .last) (layF-more t ts f c))
 
 mutual
   unfolding BareT
@@ -116,13 +116,13 @@ mutual
   pub lay-dry : (t : Tree Node) → BareT t → (q : LayoutInput) (w : Float) → sizeT (mapT siteIn t) q w ≡ layT t q w .out
   lay-dry (node l ks) h q w = lay-node l ks q w (isLeaf (l .site .style .kind)) refl (λ f c. stack-dry ks (h .1) f c)
 
-  pub stack-dry : (ts : Forest Node) → BareF ts → (f : Frame) (c : Cursor) → sizeF (mapF siteIn ts) f c ≡ layF ts f c .end
-  stack-dry none h f c = ap (λ (us : Forest Site). sizeF us f c) (mapF-none siteIn) ∙ sizeF-none f c ∙ sym (ap (λ (z : Stacked). z .end) (layF-none f c))
+  pub stack-dry : (ts : Forest Node) → BareF ts → (f : Frame) (c : Cursor) → sizeF (mapF siteIn ts) f c ≡ layF ts f c .last
+  stack-dry none h f c = ap (λ (us : Forest Site). sizeF us f c) (mapF-none siteIn) ∙ sizeF-none f c ∙ sym (ap (λ (z : Stacked). z .last) (layF-none f c))
   stack-dry (more t ts) h f c = lay-more t ts f c (past-of f c t (h .0) (λ q m. lay-dry t (h .0) q m)) (λ d. stack-dry ts (h .1) f d)
 
 -- at any tree of sites
 pub nodes-size : (t : Tree Site) (n : Tree Node) → NodesT t n → (q : LayoutInput) (w : Float) → sizeT t q w ≡ layT n q w .out
 nodes-size t n h q w = ap (λ (z : Tree Site). sizeT z q w) (sym (h .sites)) ∙ lay-dry n (h .bare) q w
 
-pub nodes-stack : (ts : Forest Site) (ns : Forest Node) → NodesF ts ns → (f : Frame) (c : Cursor) → sizeF ts f c ≡ layF ns f c .end
+pub nodes-stack : (ts : Forest Site) (ns : Forest Node) → NodesF ts ns → (f : Frame) (c : Cursor) → sizeF ts f c ≡ layF ns f c .last
 nodes-stack ts ns h f c = ap (λ (z : Forest Site). sizeF z f c) (sym (h .sites)) ∙ stack-dry ns (h .bare) f c

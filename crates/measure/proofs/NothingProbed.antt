@@ -10,10 +10,11 @@ use Rattle.length.specs.declared.AvailableSpace.{AvailableSpace}
 use Rattle.tree.specs.Tree.{Tree, Forest, node, none, more, mapT, mapF, rootT}
 use Rattle.tree.proofs.Laws.{mapT-node, mapF-none, mapF-more, rootT-node, rootT-map}
 use Rattle.steps.specs.Sizing.{stepA, knownOf}
-use Rattle.steps.specs.Width.{isLeaf, stepF, outerWidth, leafWidth}
+use Rattle.style.specs.Flow.{isLeaf}
+use Rattle.steps.specs.Width.{wantOf, outerWidth, leafWidth}
 use Rattle.steps.specs.Row.{noRow}
 use Rattle.steps.specs.Page.{Site, Cell, Node, blank, cleared, probedAnew}
-use Rattle.steps.specs.Probe.{Probed, Widest, Passed, probeKnown, spaceIn, widthFrom, answered, asked, blockProbe, stay, widen, probeT, probeF, passBy, widthPass}
+use Rattle.steps.specs.Probe.{Probed, Widest, Passed, probeKnown, spaceIn, foundWidth, answered, asked, blockProbe, stay, widen, probeT, probeF, passBy, widthPass}
 use Rattle.steps.specs.declared.Want.{Want}
 use Rattle.steps.specs.declared.Want.the-variants.{Nothing, Outer}
 use Rattle.steps.specs.declared.Want.the-variants as want
@@ -53,7 +54,7 @@ block-of : (s : Site) (ks : Forest Site) (q : ProbeInput) (o : OptionF32) (r : W
     → WidestOf ks (spaceIn (s .style) None (q .available)) zeroF r → ProbeOf (node s ks) q (blockProbe (blank s) q (mapF blank ks) o r)
 unfolding blockProbe widthBy blank
 block-of s ks q (Some w) r e h = asked-of s ks q w (mapF cleared (mapF blank ks)) e (nodes-clears ks)
-block-of s ks q None r e h = asked-of s ks q (widthFrom (s .style) None (r .most)) (r .nodes) (e ∙ ap (widthFrom (s .style) None) (h .most)) (h .nodes)
+block-of s ks q None r e h = asked-of s ks q (foundWidth (s .style) None (r .most)) (r .nodes) (e ∙ ap (foundWidth (s .style) None) (h .most)) (h .nodes)
 
 probe-node : (s : Site) (ks : Forest Site) (q : ProbeInput) (v : Bool) → isLeaf (s .style .kind) ≡ v → ((a : AvailableSpace) → WidestOf ks a zeroF (probeF (mapF blank ks) a zeroF)) → ProbeOf (node s ks) q (probeT (node (blank s) (mapF blank ks)) q)
 unfolding probeT blank isLeaf
@@ -84,7 +85,7 @@ more-of (want.Probe q) t ts a m e h k =
 probe-more : (t : Tree Site) (ts : Forest Site) (a : AvailableSpace) (m : Float) → ((q : ProbeInput) → ProbeOf t q (probeT (mapT blank t) q)) → ((n : Float) → WidestOf ts a n (probeF (mapF blank ts) a n))
     → WidestOf (more t ts) a m (probeF (more (mapT blank t) (mapF blank ts)) a m)
 unfolding probeF widened
-probe-more t ts a m h k = more-of (stepF (rootT (mapT blank t) .site .style) a) t ts a m (ap (λ (z : Site). widenBy (stepF (z .style) a) t a m) (sym (blank-site t))) h k
+probe-more t ts a m h k = more-of (wantOf (rootT (mapT blank t) .site .style) a) t ts a m (ap (λ (z : Site). widenBy (wantOf (z .style) a) t a m) (sym (blank-site t))) h k
 
 probe-none : (a : AvailableSpace) (m : Float) → WidestOf none a m (probeF none a m)
 unfolding probeF
@@ -114,7 +115,7 @@ unfolding passBy foundT foundBy blank cleared
 pass-by s ks q (Some w) = record { found = refl; nodes = nodes-node _ s ks _ refl refl (nodes-clears ks) }
 pass-by s ks q None =
     let h = probes-F ks (spaceIn (s .style) (q .parent) (q .available)) zeroF in
-    record { found = ap (widthFrom (s .style) (q .parent)) (h .most); nodes = nodes-node _ s ks _ refl refl (h .nodes) }
+    record { found = ap (foundWidth (s .style) (q .parent)) (h .most); nodes = nodes-node _ s ks _ refl refl (h .nodes) }
 
 pass-node : (s : Site) (ks : Forest Site) (q : LayoutInput) → PassOf (node s ks) q (knownOf (s .style) (stepA (s .style) (q .parent)) (q .known) .width) (widthPass (node (blank s) (mapF blank ks)) q)
 unfolding widthPass blank

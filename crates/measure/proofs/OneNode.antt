@@ -15,14 +15,15 @@ use Rattle.style.specs.Style.{styleAt}
 use Rattle.style.specs.declared.Style.{Style}
 use Rattle.tree.specs.Tree.{Tree, Forest, node, rootT}
 use Rattle.tree.proofs.Laws.{rootT-node}
-use Rattle.steps.specs.Width.{isLeaf, flowOf, stepF, outerWidth, leafWidth}
+use Rattle.style.specs.Flow.{isLeaf, flowOf}
+use Rattle.steps.specs.Width.{wantOf, outerWidth, leafWidth}
 use Rattle.steps.specs.Edges.{frameOf}
-use Rattle.steps.specs.Stack.{startOf, itemOf, stepJ, stepped, pastAside, pastHidden}
-use Rattle.steps.specs.Height.{finished, leafOutput}
+use Rattle.steps.specs.Stack.{startOf, itemOf, questionTo, stepped, pastAside, pastHidden}
+use Rattle.steps.specs.Through.{finished, leafOutput}
 use Rattle.steps.specs.Page.{Site}
-use Rattle.steps.specs.Probe.{probeKnown, spaceIn, widthFrom}
-use Rattle.steps.specs.declared.Flow.{Flow}
-use Rattle.steps.specs.declared.Flow.the-variants.{Gone, Out, In}
+use Rattle.steps.specs.Probe.{probeKnown, spaceIn, foundWidth}
+use Rattle.style.specs.declared.Flow.{Flow}
+use Rattle.style.specs.declared.Flow.the-variants.{Gone, Out, In}
 use Rattle.steps.specs.declared.Want.{Want}
 use Rattle.steps.specs.declared.Want.the-variants.{Nothing, Outer}
 use Rattle.steps.specs.declared.Want.the-variants as want
@@ -65,17 +66,17 @@ module _ (ws : List ℕ) (xs : List Float) (b : ℕ) (s : Style) (hs : s ≡ sty
   known-width q known w e hk ho (node l ks) h = sym (width-by q known (Some w) l ks h e hk ho)
 
   pub inner-width : (q : ProbeInput) (known : OptionSize) (room : AvailableSpace) (most r : Float) → isLeaf (s .kind) ≡ false → known ≡ probeKnown s q → known .width ≡ None → room ≡ spaceIn s None (q .available)
-      → Widest (take (length ws - 4) (drop 4 ws)) xs (b + 1) room most → r ≡ widthFrom s None most → Width ws xs b q r
+      → Widest (take (length ws - 4) (drop 4 ws)) xs (b + 1) room most → r ≡ foundWidth s None most → Width ws xs b q r
   unfolding widthBy
   inner-width q known room most r e hk ho hroom hm hr (node l ks) h =
       let m : most ≡ widthF ks (spaceIn s None (q .available)) zeroF = hm ks (kids-of ws xs b l ks h) ∙ ap (λ (z : AvailableSpace). widthF ks z zeroF) hroom in
-      hr ∙ ap (widthFrom s None) m ∙ sym (width-by q known None l ks h e hk ho)
+      hr ∙ ap (foundWidth s None) m ∙ sym (width-by q known None l ks h e hk ho)
 
   -- ---- a child of step F
-  module _ (a : AvailableSpace) (m : Float) (w : Want) (hw : w ≡ stepF s a) where
+  module _ (a : AvailableSpace) (m : Float) (w : Want) (hw : w ≡ wantOf s a) where
     widened-of : (l : Site) (ks : Forest Site) (v : Want) → SitesT ws xs b (node l ks) → w ≡ v → widened (node l ks) a m ≡ widenBy v (node l ks) a m
     unfolding widened
-    widened-of l ks v h e = ap (λ (z : Want). widenBy z (node l ks) a m) (ap (λ (z : Style). stepF z a) (root-of l ks h) ∙ sym hw ∙ e)
+    widened-of l ks v h e = ap (λ (z : Want). widenBy z (node l ks) a m) (ap (λ (z : Style). wantOf z a) (root-of l ks h) ∙ sym hw ∙ e)
 
     pub nothing-widened : w ≡ Nothing → Widened ws xs b a m m
     unfolding widenBy
@@ -118,12 +119,12 @@ module _ (ws : List ℕ) (xs : List Float) (b : ℕ) (s : Style) (hs : s ≡ sty
     unfolding pastBy
     out-passed r e hr (node l ks) h = hr ∙ sym (past-of l ks Out h e)
 
-    pub in-passed : (q : LayoutInput) (o : LayoutOutput) (i : BlockItem) (r : Cursor) → flow ≡ In → q ≡ stepJ f s → Measured ws xs b q zeroF o → i ≡ itemOf f s → r ≡ stepped f c i o → Passed ws xs b f c r
+    pub in-passed : (q : LayoutInput) (o : LayoutOutput) (i : BlockItem) (r : Cursor) → flow ≡ In → q ≡ questionTo f s → Measured ws xs b q zeroF o → i ≡ itemOf f s → r ≡ stepped f c i o → Passed ws xs b f c r
     unfolding pastBy
     in-passed q o i r e hq ho hi hr (node l ks) h =
         let t : Tree Site = node l ks in
         let st = sym (root-of l ks h) in
-        let oo : o ≡ sizeT t (stepJ f (rootT t .style)) zeroF = ho t h ∙ ap (λ (z : LayoutInput). sizeT t z zeroF) (hq ∙ ap (stepJ f) st) in
+        let oo : o ≡ sizeT t (questionTo f (rootT t .style)) zeroF = ho t h ∙ ap (λ (z : LayoutInput). sizeT t z zeroF) (hq ∙ ap (questionTo f) st) in
         hr ∙ ap (λ (z : BlockItem). stepped f c z o) (hi ∙ ap (itemOf f) st) ∙ ap (stepped f c (itemOf f (rootT t .style))) oo ∙ sym (past-of l ks In h e)
 
   -- ---- the width pass at the root
@@ -131,12 +132,12 @@ module _ (ws : List ℕ) (xs : List Float) (b : ℕ) (s : Style) (hs : s ≡ sty
   unfolding foundT
   root-found l ks q o = refl
 
-  pub inner-found : (q : LayoutInput) (room : AvailableSpace) (most r : Float) → room ≡ spaceIn s (q .parent) (q .available) → Widest (take (length ws - 4) (drop 4 ws)) xs (b + 1) room most → r ≡ widthFrom s (q .parent) most
+  pub inner-found : (q : LayoutInput) (room : AvailableSpace) (most r : Float) → room ≡ spaceIn s (q .parent) (q .available) → Widest (take (length ws - 4) (drop 4 ws)) xs (b + 1) room most → r ≡ foundWidth s (q .parent) most
       → (t : Tree Site) → SitesT ws xs b t → r ≡ foundT t q None
   unfolding foundBy
   inner-found q room most r hroom hm hr (node l ks) h =
       let m : most ≡ widthF ks (spaceIn s (q .parent) (q .available)) zeroF = hm ks (kids-of ws xs b l ks h) ∙ ap (λ (z : AvailableSpace). widthF ks z zeroF) hroom in
-      hr ∙ ap (widthFrom s (q .parent)) m ∙ ap (λ (z : Style). widthFrom z (q .parent) (widthF ks (spaceIn z (q .parent) (q .available)) zeroF)) (style-of l ks h) ∙ sym (root-found l ks q None)
+      hr ∙ ap (foundWidth s (q .parent)) m ∙ ap (λ (z : Style). foundWidth z (q .parent) (widthF ks (spaceIn z (q .parent) (q .available)) zeroF)) (style-of l ks h) ∙ sym (root-found l ks q None)
 
 pub known-found : (ws : List ℕ) (xs : List Float) (q : LayoutInput) (w r : Float) → r ≡ zeroF → Found ws xs q (Some w) r
 unfolding foundT foundBy

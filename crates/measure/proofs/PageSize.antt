@@ -18,7 +18,8 @@ use Rattle.tree.specs.Table.{from}
 use Rattle.steps.specs.Sizing.{stepA, stepB, knownOf}
 use Rattle.steps.specs.Page.{Site, siteAt, pageOf}
 use Rattle.steps.specs.Noes.{badTables, pageTested, refuseIf, sizeTested}
-use Rattle.steps.specs.Results.{axes, stepC, widthKnown, stepG, sizeBelow, sizeOf, sizeReply, sizeByTest, sizeResult}
+use Rattle.steps.specs.SizeQuestion.{axes, stepC, widthKnown, stepG, sizeBelow, sizeOf}
+use Rattle.steps.specs.Results.{sizeReply, sizeByTest, sizeResult}
 use Rattle.steps.specs.declared.Sizing.{Sizing}
 use Rattle.steps.specs.declared.LayoutInput.{LayoutInput}
 use Rattle.steps.specs.declared.LayoutOutput.{LayoutOutput}

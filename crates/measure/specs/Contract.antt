@@ -12,7 +12,7 @@ use Rattle.tree.specs.Tree.{Tree, Forest, countT, countF, depthT, depthF, flatT
 use Rattle.tree.specs.Table.{entryOf, from}
 use Rattle.steps.specs.Stack.{startOf}
 use Rattle.steps.specs.Page.{Site, siteAt}
-use Rattle.steps.specs.Results.{stepG, widthKnown, sizeOf}
+use Rattle.steps.specs.SizeQuestion.{stepG, widthKnown, sizeOf}
 use Rattle.steps.specs.declared.ProbeInput.{ProbeInput}
 use Rattle.steps.specs.declared.LayoutInput.{LayoutInput}
 use Rattle.steps.specs.declared.LayoutOutput.{LayoutOutput}

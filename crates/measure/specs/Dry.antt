@@ -10,15 +10,16 @@ use Rattle.length.specs.declared.AvailableSpace.{AvailableSpace}
 use Rattle.style.specs.declared.Style.{Style}
 use Rattle.tree.specs.Tree.{Tree, Forest, node, none, more, rootT}
 use Rattle.steps.specs.Sizing.{stepA, stepB, knownOf}
-use Rattle.steps.specs.Width.{isLeaf, flowOf, stepF, outerWidth, leafWidth}
+use Rattle.style.specs.Flow.{isLeaf, flowOf}
+use Rattle.steps.specs.Width.{wantOf, outerWidth, leafWidth}
 use Rattle.steps.specs.Edges.{frameOf}
-use Rattle.steps.specs.Stack.{startOf, itemOf, stepJ, stepped, pastAside, pastHidden}
-use Rattle.steps.specs.Height.{finished, leafOutput}
+use Rattle.steps.specs.Stack.{startOf, itemOf, questionTo, stepped, pastAside, pastHidden}
+use Rattle.steps.specs.Through.{finished, leafOutput}
 use Rattle.steps.specs.Page.{Site}
-use Rattle.steps.specs.Probe.{probeKnown, spaceIn, widthFrom}
-use Rattle.steps.specs.Results.{stepC, sizeBelow}
-use Rattle.steps.specs.declared.Flow.{Flow}
-use Rattle.steps.specs.declared.Flow.the-variants.{Gone, Out, In}
+use Rattle.steps.specs.Probe.{probeKnown, spaceIn, foundWidth}
+use Rattle.steps.specs.SizeQuestion.{stepC, sizeBelow}
+use Rattle.style.specs.declared.Flow.{Flow}
+use Rattle.style.specs.declared.Flow.the-variants.{Gone, Out, In}
 use Rattle.steps.specs.declared.Want.{Want}
 use Rattle.steps.specs.declared.Want.the-variants.{Nothing, Outer}
 use Rattle.steps.specs.declared.Want.the-variants as want
@@ -32,7 +33,7 @@ use Rattle.steps.specs.declared.Cursor.{Cursor}
 -- a width that is known, else the one that F finds
 unfoldable pub widthBy : Style → OptionF32 → Float → Float
 widthBy s (Some w) most = w
-widthBy s None most = widthFrom s None most
+widthBy s None most = foundWidth s None most
 
 -- F: a probe of a tree, and the widest of a forest
 unfoldable mutual
@@ -46,7 +47,7 @@ unfoldable mutual
   pub widthF : Forest Site → AvailableSpace → Float → Float
   widthF none a m = m
   widthF (more t ts) a m =
-      elim (stepF (rootT t .style) a) [
+      elim (wantOf (rootT t .style) a) [
         | Nothing ↦ widthF ts a m
         | Outer w ↦ widthF ts a (larger m w)
         | want.Probe q ↦ widthF ts a (larger m (outerWidth (rootT t .style) a (widthT t q)))
@@ -59,7 +60,7 @@ widenBy (Outer w) t a m = larger m w
 widenBy (want.Probe q) t a m = larger m (outerWidth (rootT t .style) a (widthT t q))
 
 unfoldable pub widened : Tree Site → AvailableSpace → Float → Float
-widened t a m = widenBy (stepF (rootT t .style) a) t a m
+widened t a m = widenBy (wantOf (rootT t .style) a) t a m
 
 -- the final pass: the answer of a tree, and where the stack of a forest ends
 unfoldable mutual
@@ -76,14 +77,14 @@ unfoldable mutual
       elim (flowOf (rootT t .style)) [
         | Gone ↦ sizeF ts f (pastHidden c)
         | Out ↦ sizeF ts f (pastAside c)
-        | In ↦ sizeF ts f (stepped f c (itemOf f (rootT t .style)) (sizeT t (stepJ f (rootT t .style)) zeroF))
+        | In ↦ sizeF ts f (stepped f c (itemOf f (rootT t .style)) (sizeT t (questionTo f (rootT t .style)) zeroF))
       ]
 
 -- one child of the stack
 unfoldable pub pastBy : Flow → Frame → Cursor → Tree Site → Cursor
 pastBy Gone f c t = pastHidden c
 pastBy Out f c t = pastAside c
-pastBy In f c t = stepped f c (itemOf f (rootT t .style)) (sizeT t (stepJ f (rootT t .style)) zeroF)
+pastBy In f c t = stepped f c (itemOf f (rootT t .style)) (sizeT t (questionTo f (rootT t .style)) zeroF)
 
 unfoldable pub pastT : Frame → Cursor → Tree Site → Cursor
 pastT f c t = pastBy (flowOf (rootT t .style)) f c t
@@ -91,7 +92,7 @@ pastT f c t = pastBy (flowOf (rootT t .style)) f c t
 -- what the width pass finds at the root; 0 where the width is known
 unfoldable pub foundBy : Style → OptionF32 → OptionF32 → Float → Float
 foundBy s parent (Some w) most = zeroF
-foundBy s parent None most = widthFrom s parent most
+foundBy s parent None most = foundWidth s parent most
 
 unfoldable pub foundT : Tree Site → LayoutInput → OptionF32 → Float
 foundT (node l ks) q width = foundBy (l .style) (q .parent) width (widthF ks (spaceIn (l .style) (q .parent) (q .available)) zeroF)

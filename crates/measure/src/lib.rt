@@ -1,14 +1,13 @@
 // The size question: what a page would measure. It is lent no rows, keeps nothing and writes nothing.
 ghost use mathlib.Core.Path.{_≡_};
 ghost use Rattle.steps.specs.Stack.{Counts};
-ghost use Rattle.steps.specs.Results.{axes, sizeReply, sizeResult};
+ghost use Rattle.steps.specs.SizeQuestion.{axes};
+ghost use Rattle.steps.specs.Results.{sizeReply, sizeResult};
 ghost use Rattle.measure.specs.Contract.{IsTree, IsForest, Width, Widened, Widest, Measured, Passed, Stacked, Found, Whole, Rest, KnownWidth, SizeOf};
 use geometry::Size;
 use length::AvailableSpace;
-use margin::NodeId;
 use steps::Answer;
 use steps::Cursor;
-use steps::Flow;
 use steps::Frame;
 use steps::LayoutInput;
 use steps::LayoutOutput;
@@ -17,6 +16,8 @@ use steps::RequestedAxis;
 use steps::SizeAnswer;
 use steps::Tested;
 use steps::Want;
+use style::Flow;
+use tree::NodeId;
 use util::OptionF32;
 
 // A probe of one tree: its width alone.
@@ -27,7 +28,7 @@ fn width_of(words: &[u32], numbers: &[f32], base: usize, depth: usize, q: ProbeI
     let s = style::style_at(words, 0, numbers, base);
     let kind = s.kind;
     let a = q.available;
-    if widths::is_leaf(kind) {
+    if style::is_leaf(kind) {
         let m = s.measure;
         return widths::leaf_width(m, a);
     }
@@ -99,7 +100,7 @@ fn measured(
 {
     let s = style::style_at(words, 0, numbers, base);
     let kind = s.kind;
-    if widths::is_leaf(kind) {
+    if style::is_leaf(kind) {
         let m = s.measure;
         return heights::leaf_output(m, q);
     }
@@ -133,7 +134,7 @@ fn passed(words: &[u32], numbers: &[f32], base: usize, depth: usize, f: Frame, c
     ensures { λ r. ⌜ Passed (now (words .entry)) (now (numbers .entry)) base f c r ⌝ }
 {
     let s = style::style_at(words, 0, numbers, base);
-    let flow = widths::flow_of(s);
+    let flow = style::flow_of(s);
     match flow {
         Flow::Gone => stacking::past_hidden(c),
         Flow::Out => stacking::past_aside(c),

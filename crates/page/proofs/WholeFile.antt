@@ -13,7 +13,7 @@ use Rattle.geometry.specs.Geometry.{zeroF}
 use Rattle.text.specs.Pieces.{linesOf, past}
 use Rattle.text.specs.Laws.{lines-past}
 use Rattle.page.specs.Head.{headOf}
-use Rattle.page.specs.Body.{Tables, tables, Body, Wrong, Right, rest, Room, Ended}
+use Rattle.page.specs.Body.{Tables, tables, Body, Wrong, Right, rest, TablesFit, Ended}
 use Rattle.page.specs.File.{Read, nodeLimit, badFile, bodyFile, fileFrom, fileOf, pageFile, ReadAs, Blank}
 use Rattle.page.specs.declared.Head.{Head}
 use Rattle.page.specs.declared.HeadLines.{HeadLines}
@@ -22,7 +22,7 @@ use Rattle.page.specs.declared.PageFile.{PageFile}
 use Rattle.page.specs.declared.PageFile.the-variants.{BadLine, Page}
 
 -- nodes within the limit have room
-pub room-of : (n : ℕ) (ws : List ℕ) (xs : List Float) → n ≤ nodeLimit (length ws) (length xs) → Room n 0 ws xs
+pub room-of : (n : ℕ) (ws : List ℕ) (xs : List Float) → n ≤ nodeLimit (length ws) (length xs) → TablesFit n 0 ws xs
 unfolding nodeLimit
 room-of n ws xs h = record { few = omega arith; so-far = omega arith; words-room = omega arith; numbers-room = omega arith }
 

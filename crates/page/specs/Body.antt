@@ -63,7 +63,7 @@ rest whole n k t [] = cond (whole && eqb (t .count) n) (Right t) (Wrong k)
 rest whole n k t (l ∷ ls) = elim (bodyLine n t l) [ Stop ↦ Wrong k | Go u ↦ rest whole n (k + 1) u ls ]
 
 -- n nodes have room, and count of them are written
-pub record Room (n count : ℕ) (ws : List ℕ) (xs : List Float) : Type 0 where
+pub record TablesFit (n count : ℕ) (ws : List ℕ) (xs : List Float) : Type 0 where
   pub few : n ≤ 512
   pub so-far : count ≤ n
   pub words-room : 4 * n ≤ length ws

@@ -23,13 +23,13 @@ use Rattle.page.specs.declared.HeadLines.{HeadLines}
 use Rattle.page.specs.declared.HeadLines.the-variants.{Bad, Is}
 
 -- the question as written: of a root, with a parent width
-unfoldable pub questionOf : Float → OptionSize → AvailableSpace → Flags → LayoutInput
-questionOf p k a f = record { known = k; parent = Some p; available = a; start = f .start; end = f .end; nested = false }
+unfoldable pub headQuestion : Float → OptionSize → AvailableSpace → Flags → LayoutInput
+headQuestion p k a f = record { known = k; parent = Some p; available = a; collapseStart = f .start; collapseEnd = f .end; nested = false }
 
 -- line 5: lines=
 unfoldable pub flagsIn : ℕ → Float → OptionSize → AvailableSpace → FlagsLine → HeadLines
 flagsIn n p k a flags.Bad = Bad 5
-flagsIn n p k a (flags.Is f) = Is (record { count = n; question = questionOf p k a f })
+flagsIn n p k a (flags.Is f) = Is (record { count = n; question = headQuestion p k a f })
 
 -- line 4: avail=
 unfoldable pub availIn : ℕ → Float → OptionSize → List (List ℕ) → AvailLine → HeadLines

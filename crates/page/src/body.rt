@@ -3,7 +3,7 @@ ghost use mathlib.Core.Path.{_≡_};
 ghost use Prim.Native.Nat.{_*_, _≤_};
 ghost use lib.ListN.{length, drop};
 ghost use Rattle.text.specs.Pieces.{linesOf};
-ghost use Rattle.page.specs.Body.{tables, bodyLine, nodeStep, numStep, numIn, rest, Room, Stepped, Ended};
+ghost use Rattle.page.specs.Body.{tables, bodyLine, nodeStep, numStep, numIn, rest, TablesFit, Stepped, Ended};
 use lines::FieldNumber;
 use lines::NodeLine;
 use lines::NodeWords;
@@ -11,7 +11,7 @@ use lines::NumLine;
 
 // The next node's words; no such node is a count over n.
 fn put_node(w: NodeWords, n: usize, count: usize, words: &mut [u32], numbers: &[f32]) -> usize
-    requires { ⌜ Room n count (now words) (now numbers) ⌝ }
+    requires { ⌜ TablesFit n count (now words) (now numbers) ⌝ }
     ensures { λ r. ⌜ Stepped n (nodeStep n (tables count (now (words .entry)) (now (numbers .entry))) w) (tables count (now (words .entry)) (now (numbers .entry))) r (now (words .exit)) (now (numbers .entry)) ⌝ }
 {
     if n <= count {
@@ -26,7 +26,7 @@ fn put_node(w: NodeWords, n: usize, count: usize, words: &mut [u32], numbers: &[
 
 // A number of the last node; a count over n if there is none.
 fn put_number(x: FieldNumber, n: usize, count: usize, words: &[u32], numbers: &mut [f32]) -> usize
-    requires { ⌜ Room n count (now words) (now numbers) ⌝ }
+    requires { ⌜ TablesFit n count (now words) (now numbers) ⌝ }
     ensures { λ r. ⌜ Stepped n (numStep (tables count (now (words .entry)) (now (numbers .entry))) x) (tables count (now (words .entry)) (now (numbers .entry))) r (now (words .entry)) (now (numbers .exit)) ⌝ }
 {
     if count == 0 {
@@ -42,7 +42,7 @@ fn put_number(x: FieldNumber, n: usize, count: usize, words: &[u32], numbers: &m
 
 // One line; a count over n if it is bad.
 fn body_line(l: &[u8], n: usize, count: usize, words: &mut [u32], numbers: &mut [f32]) -> usize
-    requires { ⌜ Room n count (now words) (now numbers) ⌝ }
+    requires { ⌜ TablesFit n count (now words) (now numbers) ⌝ }
     ensures { λ r. ⌜ Stepped n (bodyLine n (tables count (now (words .entry)) (now (numbers .entry))) (now (l .entry))) (tables count (now (words .entry)) (now (numbers .entry))) r (now (words .exit)) (now (numbers .exit)) ⌝ }
 {
     let node = lines::node_line(l);
@@ -69,7 +69,7 @@ pub fn read_body(
 ) -> usize
     requires short { ⌜ length (now text) ≤ 262143 ⌝ }
     requires within { ⌜ from ≤ length (now text) ⌝ }
-    requires room { ⌜ Room n 0 (now words) (now numbers) ⌝ }
+    requires room { ⌜ TablesFit n 0 (now words) (now numbers) ⌝ }
     ensures { λ r. ⌜ Ended (rest whole n 6 (tables 0 (now (words .entry)) (now (numbers .entry))) (linesOf (drop from (now (text .entry))))) (now (words .entry)) (now (numbers .entry)) r (now (words .exit)) (now (numbers .exit)) ⌝ }
 {
     let mut at = from;

@@ -2,7 +2,7 @@
 ghost use mathlib.Core.Path.{_≡_};
 ghost use Rattle.text.specs.Pieces.{linesOf, pieceAt};
 ghost use Rattle.lines.specs.Lines.{nodesLine, parentLine, knownLine, availLine, flagsLine};
-ghost use Rattle.page.specs.Head.{questionOf, flagsIn, availIn, knownIn, parentIn, headOf};
+ghost use Rattle.page.specs.Head.{headQuestion, flagsIn, availIn, knownIn, parentIn, headOf};
 use crate::Head;
 use crate::HeadLines;
 use length::AvailableSpace;
@@ -17,14 +17,14 @@ use util::OptionSize;
 
 // The question that is written.
 fn question(parent: f32, known: OptionSize, available: AvailableSpace, f: Flags) -> LayoutInput
-    ensures { λ r. ⌜ r ≡ questionOf parent known available f ⌝ }
+    ensures { λ r. ⌜ r ≡ headQuestion parent known available f ⌝ }
 {
     LayoutInput {
         known,
         parent: OptionF32::Some(parent),
         available,
-        start: f.start,
-        end: f.end,
+        collapseStart: f.start,
+        collapseEnd: f.end,
         nested: false,
     }
 }

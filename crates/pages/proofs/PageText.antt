@@ -18,7 +18,7 @@ use Rattle.page.specs.declared.PageFile.{PageFile}
 use Rattle.page.specs.declared.PageFile.the-variants.{BadLine, Page}
 use Rattle.page.proofs.HeadFits.{page-fits}
 use Rattle.page.specs.declared.Head.{Head}
-use Rattle.pages.specs.Output.{replyText, laidText, fileText, outputOf, Fits, Lent, Shown}
+use Rattle.pages.specs.Output.{replyText, laidPageText, fileText, outputText, Fits, Lent, Shown}
 
 -- the text of what a layout left is that of its reply
 pub reply-text : (n : ℕ) (want : Reply) (a : Answer) (rs : List Float) (ms ps : List ℕ) (ts : List Float) → Replied want a rs ms ps ts → pageText a n rs ms ps ts ≡ replyText n want
@@ -41,8 +41,8 @@ pub long : {A : Type 0} (m : ℕ) (z : A) (l : List A) → l ≡ replicate m z �
 long m z l e = ap length e ∙ length-replicate m z
 
 module _ (h : Head) (ws : List ℕ) (xs : List Float) (rs : List Float) (ms ps : List ℕ) (ts : List Float) (few : h .count ≤ 512) (lent : Lent rs ms ps ts) where
-  pub laid-text : replyText (h .count) (layoutResult (take (4 * h .count) ws) (take (27 * h .count) xs) (take (16 * h .count) rs) (take (2 * h .count) ms) (take (2 * h .count) ps) (take (3 * h .count) ts) (h .question)) ≡ laidText h ws xs
-  unfolding laidText
+  pub laid-text : replyText (h .count) (layoutResult (take (4 * h .count) ws) (take (27 * h .count) xs) (take (16 * h .count) rs) (take (2 * h .count) ms) (take (2 * h .count) ps) (take (3 * h .count) ts) (h .question)) ≡ laidPageText h ws xs
+  unfolding laidPageText
   laid-text =
       let n = h .count in
       rw (cut (16 * n) 8192 zeroF rs (lent .rows-zero) (omega arith), cut (2 * n) 1024 0 ms (lent .marks-zero) (omega arith), cut (2 * n) 1024 0 ps (lent .pairs-zero) (omega arith), cut (3 * n) 1536 zeroF ts (lent .triples-zero) (omega arith))
@@ -56,12 +56,12 @@ fits-in s h ws xs e a b =
 
 -- the output of a bad file, and of a page
 module _ (s : List ℕ) (r : PageFile) (ws : List ℕ) (xs : List Float) (read : ReadAs (pageFile 2048 13824 s) r ws xs) where
-  pub bad-output : (k : ℕ) → r ≡ BadLine k → badText k ≡ outputOf s
-  unfolding outputOf fileText
+  pub bad-output : (k : ℕ) → r ≡ BadLine k → badText k ≡ outputText s
+  unfolding outputText fileText
   bad-output k e = rw (sym (read .file-is) ∙ e)
 
-  pub page-output : (h : Head) → r ≡ Page h → laidText h ws xs ≡ outputOf s
-  unfolding outputOf fileText
+  pub page-output : (h : Head) → r ≡ Page h → laidPageText h ws xs ≡ outputText s
+  unfolding outputText fileText
   page-output h e = rw (sym (read .file-is) ∙ e, read .words-are, read .numbers-are)
 
 pub shown : (text out out′ : List ℕ) (r : ℕ) → pen out′ r ≡ putAll text (pen out 0) → Shown text out out′ r

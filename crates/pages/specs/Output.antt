@@ -18,17 +18,17 @@ unfoldable pub replyText : ℕ → Reply → List ℕ
 replyText n r = pageText (r .answer) n (r .rows) (r .marks) (r .words) (r .numbers)
 
 -- a page that was read, laid out in zeroed memory for its nodes and as many records
-unfoldable pub laidText : Head → List ℕ → List Float → List ℕ
-laidText h ws xs =
+unfoldable pub laidPageText : Head → List ℕ → List Float → List ℕ
+laidPageText h ws xs =
     replyText (h .count) (layoutResult (take (4 * h .count) ws) (take (27 * h .count) xs) (replicate (16 * h .count) zeroF) (replicate (2 * h .count) 0) (replicate (2 * h .count) 0) (replicate (3 * h .count) zeroF) (h .question))
 
 unfoldable pub fileText : PageFile → List ℕ → List Float → List ℕ
 fileText (BadLine k) ws xs = badText k
-fileText (Page h) ws xs = laidText h ws xs
+fileText (Page h) ws xs = laidPageText h ws xs
 
 -- every byte string: a bad line, a refusal, or boxes and candidates. Tables for 512 nodes.
-unfoldable pub outputOf : List ℕ → List ℕ
-outputOf s =
+unfoldable pub outputText : List ℕ → List ℕ
+outputText s =
     let f = pageFile 2048 13824 s in
     fileText (f .file) (f .words) (f .numbers)
 

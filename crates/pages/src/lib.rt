@@ -4,7 +4,7 @@ ghost use Prim.Native.Nat.{_*_, _≤_, _<_};
 ghost use lib.ListN.{length};
 ghost use Rattle.print.specs.Pen.{pen, putAll};
 ghost use Rattle.steps.specs.Results.{layoutResult};
-ghost use Rattle.pages.specs.Output.{replyText, laidText, fileText, outputOf, Lent, Fits, Shown};
+ghost use Rattle.pages.specs.Output.{replyText, laidPageText, fileText, outputText, Lent, Fits, Shown};
 use page::Head;
 use page::PageFile;
 use steps::LayoutInput;
@@ -41,7 +41,7 @@ fn lay_in(
 ) -> usize
     requires fits { ⌜ Fits (h .count) (now words) (now numbers) ⌝ }
     requires lent { ⌜ Lent (now rows) (now marks) (now pairs) (now triples) ⌝ }
-    ensures { λ r. ⌜ pen (now (out .exit)) r ≡ putAll (laidText h (now (words .entry)) (now (numbers .entry))) (pen (now (out .entry)) 0) ⌝ }
+    ensures { λ r. ⌜ pen (now (out .exit)) r ≡ putAll (laidPageText h (now (words .entry)) (now (numbers .entry))) (pen (now (out .entry)) 0) ⌝ }
 {
     let n = h.count as usize;
     let q = h.question;
@@ -61,7 +61,7 @@ fn lay_in(
 // A layout of a page that was read.
 fn lay(h: Head, words: &[u32], numbers: &[f32], out: &mut [u8]) -> usize
     requires { ⌜ Fits (h .count) (now words) (now numbers) ⌝ }
-    ensures { λ r. ⌜ pen (now (out .exit)) r ≡ putAll (laidText h (now (words .entry)) (now (numbers .entry))) (pen (now (out .entry)) 0) ⌝ }
+    ensures { λ r. ⌜ pen (now (out .exit)) r ≡ putAll (laidPageText h (now (words .entry)) (now (numbers .entry))) (pen (now (out .entry)) 0) ⌝ }
 {
     let mut rows = [0.0f32; 8192];
     let mut marks = [0u32; 1024];
@@ -81,7 +81,7 @@ fn lay(h: Head, words: &[u32], numbers: &[f32], out: &mut [u8]) -> usize
 
 // Writes what a page file gives to the front of `out`, and says how many bytes it is.
 pub fn page_output(text: &[u8], out: &mut [u8]) -> usize
-    ensures { λ r. ⌜ Shown (outputOf (now (text .entry))) (now (out .entry)) (now (out .exit)) r ⌝ }
+    ensures { λ r. ⌜ Shown (outputText (now (text .entry))) (now (out .entry)) (now (out .exit)) r ⌝ }
 {
     let mut words = [0u32; 2048];
     let mut numbers = [0.0f32; 13824];

@@ -11,7 +11,7 @@ use lib.Ieee.{Float, binary32, toBits}
 use Rattle.steps.specs.Row.{Row, rowAt, isLaid}
 use Rattle.steps.specs.Noes.{paper}
 use Rattle.steps.specs.declared.Answer.{Answer}
-use Rattle.print.specs.Text.{glyph, decimal, hexText, countText, numberText, box=, cand=, answer=, candidates=, badline=, newline, boxText, boxOf, boxAt, each, candidateText, candidateLine, candidateAt, countLine, answerText, laidText, pageText, badText}
+use Rattle.print.specs.Text.{glyph, decimal, hexText, countText, numberText, box=, cand=, answer=, candidates=, badline=, newline, boxText, boxOf, boxAt, each, candidateText, candidateLine, candidateAt, countLine, answerText, acceptedText, pageText, badText}
 
 digits-by : (k n : ℕ) (b : Bool) → length (decimal k (n / 10)) ≤ k → length (cond b (glyph n ∷ []) (decimal k (n / 10) ++ (glyph (n % 10) ∷ []))) ≤ suc k
 digits-by k n true h = omega arith
@@ -40,8 +40,8 @@ unfolding boxText
 box-short i order x y w h =
     simp length-append (omega (arith, decimal-short 20 i, count-short order, number-long x, number-long y, number-long w, number-long h))
 
-box-by : (i : ℕ) (r : Row) (b : Bool) → length (cond b (boxText i (r .order) (r .x) (r .y) (r .w) (r .h)) []) ≤ 82
-box-by i r true = box-short i (r .order) (r .x) (r .y) (r .w) (r .h)
+box-by : (i : ℕ) (r : Row) (b : Bool) → length (cond b (boxText i (r .order) (r .place .x) (r .place .y) (r .answer .size .width) (r .answer .size .height)) []) ≤ 82
+box-by i r true = box-short i (r .order) (r .place .x) (r .place .y) (r .answer .size .width) (r .answer .size .height)
 box-by i r false = omega arith
 
 box-at-short : (rs : List Float) (ms : List ℕ) (i : ℕ) → length (boxAt rs ms i) ≤ 82
@@ -59,13 +59,13 @@ unfolding each
 each-short f m h zero = omega arith
 each-short f m h (suc n) = simp length-append (omega (arith, each-short f m h n, h n, mul-suc m n))
 
-laid-short : (n : ℕ) (rs : List Float) (ms : List ℕ) (count : ℕ) (ws : List ℕ) (xs : List Float) → length (laidText n rs ms count ws xs) ≤ 82 * n + 74 * count + 32
-unfolding laidText countLine
+laid-short : (n : ℕ) (rs : List Float) (ms : List ℕ) (count : ℕ) (ws : List ℕ) (xs : List Float) → length (acceptedText n rs ms count ws xs) ≤ 82 * n + 74 * count + 32
+unfolding acceptedText countLine
 laid-short n rs ms count ws xs =
     simp length-append
     (omega (arith, each-short (boxAt rs ms) 82 (box-at-short rs ms) n, decimal-short 20 count, each-short (λ (i : ℕ). candidateLine (candidateAt ws xs i)) 74 (candidate-short ws xs) count))
 
-page-by : (b : Bool) (n k count : ℕ) (rs : List Float) (ms ws : List ℕ) (xs : List Float) → (b ≡ true → count ≤ k) → length (cond b (laidText n rs ms count ws xs) []) ≤ 82 * n + 74 * k + 32
+page-by : (b : Bool) (n k count : ℕ) (rs : List Float) (ms ws : List ℕ) (xs : List Float) → (b ≡ true → count ≤ k) → length (cond b (acceptedText n rs ms count ws xs) []) ≤ 82 * n + 74 * k + 32
 page-by true n k count rs ms ws xs h = omega (arith, laid-short n rs ms count ws xs, h refl)
 page-by false n k count rs ms ws xs h = omega arith
 

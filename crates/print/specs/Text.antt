@@ -58,7 +58,7 @@ boxText i order x y w h = box= ++ decimal 20 i ++ countText order ++ numberText 
 
 -- the line of a laid node; others have none
 unfoldable pub boxOf : ℕ → Row → List ℕ
-boxOf i r = cond (isLaid r) (boxText i (r .order) (r .x) (r .y) (r .w) (r .h)) []
+boxOf i r = cond (isLaid r) (boxText i (r .order) (r .place .x) (r .place .y) (r .answer .size .width) (r .answer .size .height)) []
 
 unfoldable pub boxAt : List Float → List ℕ → ℕ → List ℕ
 boxAt rs ms i = boxOf i (rowAt rs ms i)
@@ -95,12 +95,12 @@ unfoldable pub answerText : ℕ → ℕ → List ℕ
 answerText number place = answer= ++ decimal 20 number ++ countText place ++ newline
 
 -- an accepted page: boxes, the count of candidates, the candidates
-unfoldable pub laidText : ℕ → List Float → List ℕ → ℕ → List ℕ → List Float → List ℕ
-laidText n rs ms count ws xs = each (boxAt rs ms) n ++ countLine candidates= count ++ each (λ i. candidateLine (candidateAt ws xs i)) count
+unfoldable pub acceptedText : ℕ → List Float → List ℕ → ℕ → List ℕ → List Float → List ℕ
+acceptedText n rs ms count ws xs = each (boxAt rs ms) n ++ countLine candidates= count ++ each (λ i. candidateLine (candidateAt ws xs i)) count
 
 -- a refusal prints only its answer line
 unfoldable pub pageText : Answer → ℕ → List Float → List ℕ → List ℕ → List Float → List ℕ
-pageText a n rs ms ws xs = answerText (paper a .0) (paper a .1) ++ cond (eqb (paper a .0) 0) (laidText n rs ms (paper a .1) ws xs) []
+pageText a n rs ms ws xs = answerText (paper a .0) (paper a .1) ++ cond (eqb (paper a .0) 0) (acceptedText n rs ms (paper a .1) ws xs) []
 
 -- a bad line prints only its number
 unfoldable pub badText : ℕ → List ℕ

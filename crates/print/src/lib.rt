@@ -7,7 +7,7 @@ ghost use lib.Ieee.{binary32, toBits};
 ghost use Rattle.geometry.specs.Geometry.{zeroF};
 ghost use Rattle.steps.specs.Row.{rowAt};
 ghost use Rattle.print.specs.Pen.{pen, putAll};
-ghost use Rattle.print.specs.Text.{glyph, decimal, hexText, countText, numberText, boxText, boxAt, each, candidateText, candidateAt, candidateLine, countLine, answerText, laidText, pageText, badText};
+ghost use Rattle.print.specs.Text.{glyph, decimal, hexText, countText, numberText, boxText, boxAt, each, candidateText, candidateAt, candidateLine, countLine, answerText, acceptedText, pageText, badText};
 ghost use Rattle.steps.specs.Noes.{paper};
 use steps::Answer;
 
@@ -259,7 +259,7 @@ fn put_laid(
     triples: &[f32],
 ) -> usize
     requires { ⌜ n < 4294967296 ⌝ }
-    ensures { λ r. ⌜ pen (now (out .exit)) r ≡ putAll (laidText n (now (rows .entry)) (now (marks .entry)) count (now (pairs .entry)) (now (triples .entry))) (pen (now (out .entry)) at) ⌝ }
+    ensures { λ r. ⌜ pen (now (out .exit)) r ≡ putAll (acceptedText n (now (rows .entry)) (now (marks .entry)) count (now (pairs .entry)) (now (triples .entry))) (pen (now (out .entry)) at) ⌝ }
 {
     let a = put_boxes(out, at, n, rows, marks);
     let b = put_line(out, a, b"candidates=", count as u64);

@@ -9,10 +9,11 @@ use Rattle.length.specs.declared.AvailableSpace.{AvailableSpace}
 use Rattle.tree.specs.Tree.{Tree, Forest, node, more, countT, mapF, rootT}
 use Rattle.tree.proofs.Laws.{count-mapT}
 use Rattle.steps.specs.Sizing.{stepA, knownOf}
-use Rattle.steps.specs.Width.{isLeaf, stepF}
+use Rattle.style.specs.Flow.{isLeaf}
+use Rattle.steps.specs.Width.{wantOf}
 use Rattle.steps.specs.Row.{probeNote}
 use Rattle.steps.specs.Page.{Cell, Node, cleared, probedAnew}
-use Rattle.steps.specs.Probe.{Probed, Widest, probeKnown, spaceIn, widthFrom, asked, blockProbe, widen, probeT, probeF, askP, passBy, widthPass}
+use Rattle.steps.specs.Probe.{Probed, Widest, probeKnown, spaceIn, foundWidth, asked, blockProbe, widen, probeT, probeF, askP, passBy, widthPass}
 use Rattle.steps.specs.declared.LayoutInput.{LayoutInput}
 use Rattle.steps.specs.declared.ProbeInput.{ProbeInput}
 use Rattle.steps.specs.declared.Want.{Want}
@@ -26,7 +27,7 @@ block-known : (l : Cell) (ks : Forest Cell) (q : ProbeInput) (k : OptionF32) (w 
 unfolding blockProbe
 block-known l ks q k w r e = rw e
 
-block-below : (l : Cell) (ks : Forest Cell) (q : ProbeInput) (k : OptionF32) (r : Widest) → k ≡ None → blockProbe l q ks k r ≡ asked l q (widthFrom (l .site .style) None (r .most)) (r .nodes)
+block-below : (l : Cell) (ks : Forest Cell) (q : ProbeInput) (k : OptionF32) (r : Widest) → k ≡ None → blockProbe l q ks k r ≡ asked l q (foundWidth (l .site .style) None (r .most)) (r .nodes)
 unfolding blockProbe
 block-below l ks q k r e = rw e
 
@@ -34,7 +35,7 @@ pub probeT-known : (l : Cell) (ks : Forest Cell) (q : ProbeInput) (w : Float) �
 probeT-known l ks q w e k = probeT-block l ks q e ∙ block-known l ks q _ w (widestIn l ks q) k
 
 pub probeT-below : (l : Cell) (ks : Forest Cell) (q : ProbeInput) → isLeaf (l .site .style .kind) ≡ false → probeKnown (l .site .style) q .width ≡ None
-    → probeT (node l ks) q ≡ asked l q (widthFrom (l .site .style) None (widestIn l ks q .most)) (widestIn l ks q .nodes)
+    → probeT (node l ks) q ≡ asked l q (foundWidth (l .site .style) None (widestIn l ks q .most)) (widestIn l ks q .nodes)
 probeT-below l ks q e k = probeT-block l ks q e ∙ block-below l ks q _ (widestIn l ks q) k
 
 -- what `asked` makes
@@ -75,9 +76,9 @@ more-by t ts a m (want.Probe q) = refl
 
 pub widened-more : (t : Tree Cell) (ts : Forest Cell) (a : AvailableSpace) (m : Float) → probeF (more t ts) a m ≡ andThen (widenedT m a t) (probeF ts a)
 unfolding widenedT
-widened-more t ts a m = probeF-more t ts a m ∙ more-by t ts a m (stepF (rootT t .site .style) a)
+widened-more t ts a m = probeF-more t ts a m ∙ more-by t ts a m (wantOf (rootT t .site .style) a)
 
-pub widenedT-is : (m : Float) (a : AvailableSpace) (t : Tree Cell) (w : Want) → stepF (rootT t .site .style) a ≡ w → widenedT m a t ≡ widenedBy w m a t
+pub widenedT-is : (m : Float) (a : AvailableSpace) (t : Tree Cell) (w : Want) → wantOf (rootT t .site .style) a ≡ w → widenedT m a t ≡ widenedBy w m a t
 unfolding widenedT
 widenedT-is m a t w e = ap (λ (z : Want). widenedBy z m a t) e
 
@@ -91,7 +92,7 @@ abbrev pub inside : Cell → LayoutInput → Forest Cell → Widest
 inside l q ks = probeF ks (spaceIn (l .site .style) (q .parent) (q .available)) zeroF
 
 pub pass-below : (l : Cell) (ks : Forest Cell) (q : LayoutInput) → knownOf (l .site .style) (stepA (l .site .style) (q .parent)) (q .known) .width ≡ None
-    → widthPass (node l ks) q ≡ record { found = widthFrom (l .site .style) (q .parent) (inside l q ks .most); nodes = node (cleared l) (inside l q ks .nodes) }
+    → widthPass (node l ks) q ≡ record { found = foundWidth (l .site .style) (q .parent) (inside l q ks .most); nodes = node (cleared l) (inside l q ks .nodes) }
 unfolding widthPass passBy
 pass-below l ks q e = rw e
 
@@ -104,4 +105,4 @@ count-by (want.Probe q) m a t = sym (count-mapT cellIn (askP t q .nodes)) ∙ ap
 
 pub count-widened : (m : Float) (a : AvailableSpace) (t : Tree Cell) → countT (widenedT m a t .nodes) ≡ countT t
 unfolding widenedT
-count-widened m a t = count-by (stepF (rootT t .site .style) a) m a t
+count-widened m a t = count-by (wantOf (rootT t .site .style) a) m a t

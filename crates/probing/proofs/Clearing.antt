@@ -9,10 +9,10 @@ use borrow.Rule.Slice.PartMut.{putMid}
 use Rattle.tree.proofs.Lists.{tail-part, tail-put}
 use Rattle.steps.specs.Row.{rowNumbers, rowWords}
 use Rattle.steps.specs.Results.{listed}
-use Rattle.rows.specs.Store.{Becomes, AllBecome, Room, Whole, clearedRow}
+use Rattle.rows.specs.Store.{Becomes, AllBecome, OneRow, Whole, clearedRow}
 use Rattle.probing.specs.Contract.{Rows, RestCleared}
 
-pub first-whole : (rs : List Float) (ms : List ℕ) → Room rs ms → Whole (take 16 (drop 0 rs)) (take 2 (drop 0 ms))
+pub first-whole : (rs : List Float) (ms : List ℕ) → OneRow rs ms → Whole (take 16 (drop 0 rs)) (take 2 (drop 0 ms))
 first-whole rs ms h =
     let a = h .rows-some in
     let b = h .marks-some in

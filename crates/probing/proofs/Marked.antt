@@ -8,15 +8,15 @@ use lib.Ieee.{Float}
 use Rattle.geometry.specs.Geometry.{zeroF}
 use Rattle.tree.specs.Tree.{Tree, Forest, node, none, more, mapT, mapF, rootT}
 use Rattle.tree.proofs.Laws.{mapT-node, mapF-none, mapF-more, rootT-node, rootT-map}
-use Rattle.steps.specs.Width.{isLeaf, flowOf}
+use Rattle.style.specs.Flow.{isLeaf, flowOf}
 use Rattle.steps.specs.Edges.{frameOf}
-use Rattle.steps.specs.Stack.{startOf, stepJ, pastAside, pastHidden}
-use Rattle.steps.specs.Row.{Row, Probe, noted, withCode, probeOf, isLaid, outputIn, hiddenRow, asideRow}
+use Rattle.steps.specs.Stack.{startOf, questionTo, pastAside, pastHidden}
+use Rattle.steps.specs.Row.{Row, ProbeWords, noted, withCode, probeOf, isLaid, outputIn, hiddenRow, asideRow}
 use Rattle.steps.specs.Page.{Node, anyT, staying}
 use Rattle.steps.specs.Kept.{finalStands, editedNode, kept, keep, keptRow, laidBits, belowRow, fixT, fixF}
 use Rattle.steps.specs.Layout.{Stacked, leafLaid, blockLaid, layT, layF, askT, skip, aside, place}
-use Rattle.steps.specs.declared.Flow.{Flow}
-use Rattle.steps.specs.declared.Flow.the-variants.{Gone, Out, In}
+use Rattle.style.specs.declared.Flow.{Flow}
+use Rattle.style.specs.declared.Flow.the-variants.{Gone, Out, In}
 use Rattle.steps.specs.declared.LayoutInput.{LayoutInput}
 use Rattle.steps.specs.declared.Frame.{Frame}
 use Rattle.steps.specs.declared.Cursor.{Cursor}
@@ -45,7 +45,7 @@ pub probe-back : (l : Node) → l .probe .code < 16 → probeOf (passedRow l) �
 unfolding probeOf passedRow noted
 probe-back l h = rw (code-back (cond (l .anew) (unlaid (l .old .bits)) (l .old .bits)) (l .probe .code) h)
 
-stands-by : (q : LayoutInput) (r : Row) (p : Probe) (v : Bool) → finalStands q (noted r p (withCode (cond v (unlaid (r .bits)) (r .bits)) (p .code))) ≡ (not v && finalStands q r)
+stands-by : (q : LayoutInput) (r : Row) (p : ProbeWords) (v : Bool) → finalStands q (noted r p (withCode (cond v (unlaid (r .bits)) (r .bits)) (p .code))) ≡ (not v && finalStands q r)
 unfolding finalStands noted isLaid
 stands-by q r p true = rw (flag-gone (r .bits) (p .code))
 stands-by q r p false = rw (flag-0 (r .bits) (p .code), flag-3 (r .bits) (p .code))
@@ -55,7 +55,7 @@ pub stands-marked : (q : LayoutInput) (l : Node) → (not (marked l .anew) && fi
 unfolding staying markedCell passedRow
 stands-marked q l = stands-by q (l .old) (l .probe) (l .anew)
 
-kept-by : (r : Row) (p : Probe) (v : Bool) → v ≡ false → noted r p (withCode (cond v (unlaid (r .bits)) (r .bits)) (p .code)) ≡ noted r p (withCode (r .bits) (p .code))
+kept-by : (r : Row) (p : ProbeWords) (v : Bool) → v ≡ false → noted r p (withCode (cond v (unlaid (r .bits)) (r .bits)) (p .code)) ≡ noted r p (withCode (r .bits) (p .code))
 kept-by r p v e = ap (λ (b : Bool). noted r p (withCode (cond b (unlaid (r .bits)) (r .bits)) (p .code))) e
 
 passed-kept : (l : Node) → l .anew ≡ false → passedRow l ≡ keptRow l
@@ -69,7 +69,7 @@ kept-passed l = same-note (passedRow l)
 kept-marked : (l : Node) → l .anew ≡ false → keptRow (marked l) ≡ keptRow l
 kept-marked l e = kept-passed l ∙ passed-kept l e
 
-out-by : (r : Row) (p : Probe) (v : Bool) → v ≡ false → outputIn (noted r p (withCode (cond v (unlaid (r .bits)) (r .bits)) (p .code))) ≡ outputIn r
+out-by : (r : Row) (p : ProbeWords) (v : Bool) → v ≡ false → outputIn (noted r p (withCode (cond v (unlaid (r .bits)) (r .bits)) (p .code))) ≡ outputIn r
 unfolding outputIn noted
 out-by r p v e = rw (e, flag-1 (r .bits) (p .code))
 
@@ -77,7 +77,7 @@ out-marked : (l : Node) → l .anew ≡ false → outputIn (marked l .old) ≡ o
 unfolding staying markedCell passedRow
 out-marked l e = out-by (l .old) (l .probe) (l .anew) e
 
-below-by : (r : Row) (p : Probe) (v : Bool) → p .code < 16
+below-by : (r : Row) (p : ProbeWords) (v : Bool) → p .code < 16
     → noted (noted r p (withCode (cond v (unlaid (r .bits)) (r .bits)) (p .code))) p (laidBits (withCode (cond v (unlaid (r .bits)) (r .bits)) (p .code)) (p .code)) ≡ noted r p (laidBits (r .bits) (p .code))
 unfolding noted
 below-by r p v h = rw (bits-below (r .bits) (p .code) v h)
@@ -88,13 +88,13 @@ below-passed l h = below-by (l .old) (l .probe) (l .anew) h
 
 below-marked : (l : Node) → l .probe .code < 16 → belowRow (marked l) ≡ belowRow l
 unfolding belowRow staying markedCell
-below-marked l h = ap (λ (p : Probe). noted (passedRow l) p (laidBits (passedRow l .bits) (p .code))) (probe-back l h) ∙ below-passed l h
+below-marked l h = ap (λ (p : ProbeWords). noted (passedRow l) p (laidBits (passedRow l .bits) (p .code))) (probe-back l h) ∙ below-passed l h
 
 hidden-marked : (l : Node) → hiddenRow (marked l .old .order) ≡ hiddenRow (l .old .order)
 unfolding staying markedCell passedRow noted
 hidden-marked l = refl
 
-aside-marked : (l : Node) → asideRow (marked l .old .x) (marked l .old .y) (marked l .old .w) (marked l .old .order) ≡ asideRow (l .old .x) (l .old .y) (l .old .w) (l .old .order)
+aside-marked : (l : Node) → asideRow (marked l .old .place .x) (marked l .old .place .y) (marked l .old .answer .size .width) (marked l .old .order) ≡ asideRow (l .old .place .x) (l .old .place .y) (l .old .answer .size .width) (l .old .order)
 unfolding staying markedCell passedRow noted
 aside-marked l = refl
 
@@ -185,7 +185,7 @@ more-at t ts f c Gone e h k =
 more-at t ts f c Out e h k =
     layF-out (mapT marked t) (mapF marked ts) f c (ap flowOf (root-style t) ∙ e) ∙ rw (zeros-T marked t, k (pastAside c)) (sym (layF-out t ts f c e))
 more-at t ts f c In e h k =
-    layF-in (mapT marked t) (mapF marked ts) f c (ap flowOf (root-style t) ∙ e) ∙ rw (root-style t, h (stepJ f (styleT t)), k _) (sym (layF-in t ts f c e))
+    layF-in (mapT marked t) (mapF marked ts) f c (ap flowOf (root-style t) ∙ e) ∙ rw (root-style t, h (questionTo f (styleT t)), k _) (sym (layF-in t ts f c e))
 
 more-of : (t : Tree Node) (ts : Forest Node) (f : Frame) (c : Cursor) → ((q : LayoutInput) → askT (mapT marked t) q ≡ askT t q) → ((d : Cursor) → layF (mapF marked ts) f d ≡ layF ts f d)
     → layF (mapF marked (more t ts)) f c ≡ layF (more t ts) f c

@@ -18,7 +18,7 @@ use Rattle.tree.proofs.Lists.{tail-part, tail-put}
 use Rattle.steps.specs.Sizing.{stepA, knownOf}
 use Rattle.steps.specs.Row.{rowNumbers, rowWords}
 use Rattle.steps.specs.Page.{Cell, cleared}
-use Rattle.steps.specs.Probe.{Widest, Passed, spaceIn, widthFrom, probeF, widthPass}
+use Rattle.steps.specs.Probe.{Widest, Passed, spaceIn, foundWidth, probeF, widthPass}
 use Rattle.steps.specs.declared.Sizing.{Sizing}
 use Rattle.steps.specs.declared.LayoutInput.{LayoutInput}
 use Rattle.rows.specs.Store.{Becomes, AllBecome, clearedRow}
@@ -73,12 +73,12 @@ module _ (ws : List ℕ) (xs rs : List Float) (ms es : List ℕ) (q : LayoutInpu
 
   -- step F on the children
   pub passed-below : (a : AvailableSpace) (most r : Float) (rs1 : List Float) (ms1 : List ℕ) (nr : List Float) (nm : List ℕ) → known .width ≡ None → Becomes rs ms rs1 ms1 clearedRow → a ≡ spaceIn s (q .parent) (q .available)
-      → WidestF (take (length ws - 4) (drop 4 ws)) xs (take (length rs1 - 16) (drop 16 rs1)) (take (length ms1 - 2) (drop 2 ms1)) es 1 a most nr nm → r ≡ widthFrom s (q .parent) most
+      → WidestF (take (length ws - 4) (drop 4 ws)) xs (take (length rs1 - 16) (drop 16 rs1)) (take (length ms1 - 2) (drop 2 ms1)) es 1 a most nr nm → r ≡ foundWidth s (q .parent) most
       → PassedT ws xs rs ms es q r (putMid 16 (length rs1 - 16) rs1 nr) (putMid 2 (length ms1 - 2) ms1 nm)
   passed-below a most r rs1 ms1 nr nm kw cl ha hw hr (node l ks) h =
       let st = root-style ws xs rs ms es 0 s l ks h hs in
       let d = headed ws xs rs ms es l ks rs1 ms1 h cl in
-      let p : widthPass (node l ks) q ≡ record { found = widthFrom (l .site .style) (q .parent) (inside l q ks .most); nodes = node (cleared l) (inside l q ks .nodes) } = pass-below l ks q (known-is l st ∙ kw) in
+      let p : widthPass (node l ks) q ≡ record { found = foundWidth (l .site .style) (q .parent) (inside l q ks .most); nodes = node (cleared l) (inside l q ks .nodes) } = pass-below l ks q (known-is l st ∙ kw) in
       let ea : probeF ks a zeroF ≡ inside l q ks = ap (λ (v : AvailableSpace). probeF ks v zeroF) (ha ∙ ap (λ (v : Style). spaceIn v (q .parent) (q .available)) st) in
       let g = hw ks (kids-tabled ws xs rs ms es l ks rs1 ms1 h d) in
       let us = inside l q ks .nodes in
@@ -88,8 +88,8 @@ module _ (ws : List ℕ) (xs rs : List Float) (ms es : List ℕ) (q : LayoutInpu
       tail-put 16 rs1 nr ∙ ap (λ (v : List Float). v ++ nr) t16 ∙ ap (λ (v : List Float). rowNumbers (passedRow (cleared l)) ++ v) (g .1 .0 ∙ ap (λ (v : Widest). flatF passedNumbers (v .nodes)) ea) in
       let e2 : putMid 2 (length ms1 - 2) ms1 nm ≡ rowWords (passedRow (cleared l)) ++ flatF passedWords us =
       tail-put 2 ms1 nm ∙ ap (λ (v : List ℕ). v ++ nm) t2 ∙ ap (λ (v : List ℕ). rowWords (passedRow (cleared l)) ++ v) (g .1 .1 ∙ ap (λ (v : Widest). flatF passedWords (v .nodes)) ea) in
-      let em : r ≡ widthFrom (l .site .style) (q .parent) (inside l q ks .most) =
-      hr ∙ ap (λ (v : Style). widthFrom v (q .parent) most) st ∙ ap (widthFrom (l .site .style) (q .parent)) (g .0 ∙ ap (λ (v : Widest). v .most) ea) in (
+      let em : r ≡ foundWidth (l .site .style) (q .parent) (inside l q ks .most) =
+      hr ∙ ap (λ (v : Style). foundWidth v (q .parent) most) st ∙ ap (foundWidth (l .site .style) (q .parent)) (g .0 ∙ ap (λ (v : Widest). v .most) ea) in (
         em ∙ sym (ap (λ (v : Passed). v .found) p),
         (
           e1 ∙ sym (ap (λ (v : Passed). flatT passedNumbers (v .nodes)) p ∙ flatT-node passedNumbers (cleared l) us),

@@ -17,16 +17,17 @@ use Rattle.style.specs.declared.Style.{Style}
 use Rattle.tree.specs.Tree.{Tree, Forest, node, countT, flatT, flatF, mapT, mapF, rootT}
 use Rattle.tree.proofs.Laws.{flatT-node, rootT-node}
 use Rattle.tree.proofs.Lists.{tail-put}
-use Rattle.steps.specs.Width.{isLeaf, stepF, outerWidth, leafWidth}
+use Rattle.style.specs.Flow.{isLeaf}
+use Rattle.steps.specs.Width.{wantOf, outerWidth, leafWidth}
 use Rattle.steps.specs.Row.{Row, rowNumbers, rowWords, probeNote}
 use Rattle.steps.specs.Page.{Cell, Node, cleared, staying, probedAnew}
-use Rattle.steps.specs.Probe.{Probed, Widest, answered, probeKnown, spaceIn, widthFrom, asked, stay, probeT, probeF, askP}
+use Rattle.steps.specs.Probe.{Probed, Widest, answered, probeKnown, spaceIn, foundWidth, asked, stay, probeT, probeF, askP}
 use Rattle.steps.specs.declared.ProbeInput.{ProbeInput}
 use Rattle.steps.specs.declared.Want.{Want}
 use Rattle.steps.specs.declared.Want.the-variants.{Nothing, Outer}
 use Rattle.steps.specs.declared.Want.the-variants as want
 use Rattle.steps.proofs.Clauses.{probeT-leaf, askP-stands, askP-anew, widestIn, stay-nodes}
-use Rattle.rows.specs.Store.{Becomes, AllBecome, Room, Whole, probedRow, clearedRow}
+use Rattle.rows.specs.Store.{Becomes, AllBecome, OneRow, Whole, probedRow, clearedRow}
 use Rattle.walks.specs.Tables.{oldNumbers, TabledT}
 use Rattle.walks.proofs.Parts.{tree-facts}
 use Rattle.walks.proofs.Edited.{edited-run}
@@ -36,7 +37,7 @@ use Rattle.probing.proofs.PassedRows.{passed-probed, staying-rows, stay
 use Rattle.probing.proofs.Clauses.{probeT-known, probeT-below, asked-answer, asked-kids, anew-node, widenedT-is}
 
 -- a row and the rest
-pub all-rows : {rs : List Float} {ms : List ℕ} → Room rs ms → Whole rs ms → Rows rs ms
+pub all-rows : {rs : List Float} {ms : List ℕ} → OneRow rs ms → Whole rs ms → Rows rs ms
 all-rows r w =
     let a = r .rows-some in
     let b = w .rows-long in
@@ -53,11 +54,11 @@ stands-is ws xs rs ms es b q v l ks h st =
     let n : length ws / 4 ≡ countT (node l ks) = omega arith in
     rw (rootT-node, edited-run ws xs es b (node l ks) (h .sites-are), ← n) (sym (st (l .old) _ _ (k .rows-head) (k .marks-head)))
 
-stay-answer : (l : Cell) (ks : Forest Cell) → stay (node l ks) .answer ≡ l .old .answer
+stay-answer : (l : Cell) (ks : Forest Cell) → stay (node l ks) .answer ≡ l .old .probe .answer
 unfolding stay rootT
 stay-answer l ks = refl
 
-number-13 : (r : Row) (z : List Float) → getD (rowNumbers r ++ z) 13 nan ≡ r .answer
+number-13 : (r : Row) (z : List Float) → getD (rowNumbers r ++ z) 13 nan ≡ r .probe .answer
 number-13 r z = refl
 
 -- a probe that stands
@@ -126,7 +127,7 @@ module _ (ws : List ℕ) (xs rs : List Float) (ms es : List ℕ) (b : ℕ) (q : 
       made-anew rs′ ms′ q l ks w w (mapF cleared ks) refl (record { made = probeT-known l ks q w lf2 kn; rows-are = c .0; marks-are = c .1 })
 
   pub anew-below : (known : OptionSize) (a : AvailableSpace) (most r : Float) (nr : List Float) (nm : List ℕ) → isLeaf (s .kind) ≡ false → known ≡ probeKnown s q → known .width ≡ None → a ≡ spaceIn s None (q .available)
-      → WidestF (take (length ws - 4) (drop 4 ws)) xs (take (length rs - 16) (drop 16 rs)) (take (length ms - 2) (drop 2 ms)) es (b + 1) a most nr nm → r ≡ widthFrom s None most
+      → WidestF (take (length ws - 4) (drop 4 ws)) xs (take (length rs - 16) (drop 16 rs)) (take (length ms - 2) (drop 2 ms)) es (b + 1) a most nr nm → r ≡ foundWidth s None most
       → AnewT ws xs rs ms es b q r (putMid 16 (length rs - 16) rs nr) (putMid 2 (length ms - 2) ms nm)
   anew-below known a most r nr nm lf hk kw ha hw hr (node l ks) h =
       let k = tree-facts ws xs rs ms es b l ks h in
@@ -139,16 +140,16 @@ module _ (ws : List ℕ) (xs rs : List Float) (ms es : List ℕ) (b : ℕ) (q : 
       let t2 : take 2 ms ≡ rowWords (l .old) = ap (take 2) (k .marks-head) in
       let e1 : putMid 16 (length rs - 16) rs nr ≡ rowNumbers (l .old) ++ nr = tail-put 16 rs nr ∙ ap (λ (z : List Float). z ++ nr) t16 in
       let e2 : putMid 2 (length ms - 2) ms nm ≡ rowWords (l .old) ++ nm = tail-put 2 ms nm ∙ ap (λ (z : List ℕ). z ++ nm) t2 in
-      let em : r ≡ widthFrom (l .site .style) None (widestIn l ks q .most) = hr ∙ ap (λ (z : Style). widthFrom z None most) st ∙ ap (widthFrom (l .site .style) None) (g .0 ∙ ap (λ (z : Widest). z .most) ea) in
-      made-anew _ _ q l ks r (widthFrom (l .site .style) None (widestIn l ks q .most)) (widestIn l ks q .nodes) em (record {
+      let em : r ≡ foundWidth (l .site .style) None (widestIn l ks q .most) = hr ∙ ap (λ (z : Style). foundWidth z None most) st ∙ ap (foundWidth (l .site .style) None) (g .0 ∙ ap (λ (z : Widest). z .most) ea) in
+      made-anew _ _ q l ks r (foundWidth (l .site .style) None (widestIn l ks q .most)) (widestIn l ks q .nodes) em (record {
         made = probeT-below l ks q lf2 kn;
         rows-are = e1 ∙ ap (λ (z : List Float). rowNumbers (l .old) ++ z) (g .1 .0 ∙ ap (λ (z : Widest). flatF passedNumbers (z .nodes)) ea);
         marks-are = e2 ∙ ap (λ (z : List ℕ). rowWords (l .old) ++ z) (g .1 .1 ∙ ap (λ (z : Widest). flatF passedWords (z .nodes)) ea);
       })
 
 -- one child of a container without a width
-root-want : (l : Cell) (ks : Forest Cell) (s : Style) (a : AvailableSpace) (w v : Want) → s ≡ l .site .style → w ≡ stepF s a → w ≡ v → stepF (rootT (node l ks) .site .style) a ≡ v
-root-want l ks s a w v st hw e = ap (λ (c : Cell). stepF (c .site .style) a) (rootT-node l ks) ∙ ap (λ (z : Style). stepF z a) (sym st) ∙ sym hw ∙ e
+root-want : (l : Cell) (ks : Forest Cell) (s : Style) (a : AvailableSpace) (w v : Want) → s ≡ l .site .style → w ≡ wantOf s a → w ≡ v → wantOf (rootT (node l ks) .site .style) a ≡ v
+root-want l ks s a w v st hw e = ap (λ (c : Cell). wantOf (c .site .style) a) (rootT-node l ks) ∙ ap (λ (z : Style). wantOf z a) (sym st) ∙ sym hw ∙ e
 
 by-nothing : (m : Float) (a : AvailableSpace) (t : Tree Cell) → widenedBy Nothing m a t ≡ record { most = m; nodes = mapT cleared t }
 unfolding widenedBy
@@ -162,7 +163,7 @@ by-probe : (m : Float) (a : AvailableSpace) (t : Tree Cell) (q : ProbeInput) →
 unfolding widenedBy
 by-probe m a t q = refl
 
-module _ (ws : List ℕ) (xs rs : List Float) (ms es : List ℕ) (b : ℕ) (a : AvailableSpace) (most : Float) (s : Style) (w : Want) (rs′ : List Float) (ms′ : List ℕ) (hs : s ≡ styleAt ws 0 xs b) (hw : w ≡ stepF s a) where
+module _ (ws : List ℕ) (xs rs : List Float) (ms es : List ℕ) (b : ℕ) (a : AvailableSpace) (most : Float) (s : Style) (w : Want) (rs′ : List Float) (ms′ : List ℕ) (hs : s ≡ styleAt ws 0 xs b) (hw : w ≡ wantOf s a) where
   by-child : (l : Cell) (ks : Forest Cell) (r : Float) (x : Widened) → widenedT most a (node l ks) ≡ x → r ≡ x .most → AreT rs′ ms′ (x .nodes) → (r ≡ widenedT most a (node l ks) .most) × AreT rs′ ms′ (widenedT most a (node l ks) .nodes)
   by-child l ks r x e hm h =
       (hm ∙ sym (ap (λ (z : Widened). z .most) e), (h .0 ∙ sym (ap (λ (z : Widened). flatT passedNumbers (z .nodes)) e), h .1 ∙ sym (ap (λ (z : Widened). flatT passedWords (z .nodes)) e)))

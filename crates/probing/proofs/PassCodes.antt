@@ -9,7 +9,8 @@ use Rattle.util.specs.declared.OptionF32.{OptionF32}
 use Rattle.util.specs.declared.OptionF32.the-variants.{None, Some}
 use Rattle.length.specs.declared.AvailableSpace.{AvailableSpace}
 use Rattle.tree.specs.Tree.{Tree, Forest, node, none, more, mapT, mapF, rootT}
-use Rattle.steps.specs.Width.{isLeaf, stepF}
+use Rattle.style.specs.Flow.{isLeaf}
+use Rattle.steps.specs.Width.{wantOf}
 use Rattle.steps.specs.Row.{noProbe, probeNote, probeOf}
 use Rattle.steps.specs.Page.{Cell, Node, cleared, staying, probedAnew}
 use Rattle.steps.specs.Probe.{answered, probeKnown, spaceIn, asked, probeT, probeF, askP, widthPass, Widest, blockProbe, passBy}
@@ -76,7 +77,7 @@ codes-by (want.Probe q) m a t h = codes-ask t q (answered t q) refl (h q)
 
 codes-one : (m : Float) (a : AvailableSpace) (t : Tree Cell) → ((q : ProbeInput) → CodesT (probeT t q .nodes)) → CodesT (widenedT m a t .nodes)
 unfolding widenedT
-codes-one m a t h = codes-by (stepF (rootT t .site .style) a) m a t h
+codes-one m a t h = codes-by (wantOf (rootT t .site .style) a) m a t h
 
 codes-none : CodesF none
 unfolding CodesF

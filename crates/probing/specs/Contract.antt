@@ -9,7 +9,7 @@ use Rattle.geometry.specs.Geometry.{zeroF}
 use Rattle.util.specs.Math.{larger}
 use Rattle.length.specs.declared.AvailableSpace.{AvailableSpace}
 use Rattle.tree.specs.Tree.{Tree, Forest, node, flatT, flatF, mapT, rootT}
-use Rattle.steps.specs.Width.{stepF, outerWidth}
+use Rattle.steps.specs.Width.{wantOf, outerWidth}
 use Rattle.steps.specs.Row.{Row, rowNumbers, rowWords}
 use Rattle.steps.specs.Results.{listed}
 use Rattle.steps.specs.Page.{Cell, Node, cleared}
@@ -65,7 +65,7 @@ widenedBy (Outer w) m a t = record { most = larger m w; nodes = mapT cleared t }
 widenedBy (want.Probe q) m a t = record { most = larger m (outerWidth (rootT t .site .style) a (askP t q .answer)); nodes = askP t q .nodes }
 
 unfoldable pub widenedT : Float → AvailableSpace → Tree Cell → Widened
-widenedT m a t = widenedBy (stepF (rootT t .site .style) a) m a t
+widenedT m a t = widenedBy (wantOf (rootT t .site .style) a) m a t
 
 abbrev pub ProbedT : List ℕ → List Float → List Float → List ℕ → List ℕ → ℕ → ProbeInput → Float → List Float → List ℕ → Type 0
 ProbedT ws xs rs ms es b q r rs′ ms′ = (t : Tree Cell) → TabledT ws xs rs ms es b t → (r ≡ askP t q .answer) × AreT rs′ ms′ (askP t q .nodes)

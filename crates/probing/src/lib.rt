@@ -1,6 +1,6 @@
 // The width pass, in place: probes of a container without a width, and the probe words that every row is left with.
 ghost use mathlib.Core.Path.{_≡_};
-ghost use Rattle.rows.specs.Store.{Room, Becomes, clearedRow};
+ghost use Rattle.rows.specs.Store.{OneRow, Becomes, clearedRow};
 ghost use Rattle.probing.specs.Contract.{IsTree, IsForest, Rows, RestCleared, Stands, ProbedT, AnewT, WidenedT, WidestF, PassedT};
 use length::AvailableSpace;
 use steps::LayoutInput;
@@ -10,7 +10,7 @@ use util::OptionF32;
 
 // No probe words in the first row.
 fn clear_first(rows: &mut [f32], marks: &mut [u32])
-    requires { ⌜ Room (now rows) (now marks) ⌝ }
+    requires { ⌜ OneRow (now rows) (now marks) ⌝ }
     ensures { λ _. ⌜ Becomes (now (rows .entry)) (now (marks .entry)) (now (rows .exit)) (now (marks .exit)) clearedRow ⌝ }
 {
     rows::clear_probes(&mut rows[0..16], &mut marks[0..2]);
@@ -26,7 +26,7 @@ fn clear_rest(rows: &mut [f32], marks: &mut [u32])
 
 // Does the probe noted in the first row answer this one? An edit in the run of n nodes says no.
 fn stands(rows: &[f32], marks: &[u32], edits: &[u32], base: usize, n: usize, q: ProbeInput) -> bool
-    requires { ⌜ Room (now rows) (now marks) ⌝ }
+    requires { ⌜ OneRow (now rows) (now marks) ⌝ }
     ensures { λ v. ⌜ Stands (now (rows .entry)) (now (marks .entry)) (now (edits .entry)) base n q v ⌝ }
 {
     if rows::any_edit(edits, base, n) {
@@ -148,7 +148,7 @@ fn probe_anew(
     let s = style::style_at(words, 0, numbers, base);
     let a = q.available;
     let kind = s.kind;
-    if widths::is_leaf(kind) {
+    if style::is_leaf(kind) {
         let m = s.measure;
         clear_rest(rows, marks);
         return widths::leaf_width(m, a);

@@ -7,10 +7,10 @@ ghost use Rattle.geometry.specs.Geometry.{zeroF};
 ghost use Rattle.layout.specs.Public.{Replied};
 ghost use Rattle.records.specs.Records.{recordAt, recordsFrom, countOf};
 ghost use Rattle.records.specs.Results.{layoutWithin, relayoutWithin, RecordsReplied, layoutRecordsResult, relayoutRecordsResult};
-use margin::NodeId;
-use margin::Order;
 use steps::Answer;
 use steps::LayoutInput;
+use tree::NodeId;
+use tree::Order;
 
 // One candidate. Its node and its order are two counts, and so two types.
 pub struct Record {

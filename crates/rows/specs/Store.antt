@@ -6,7 +6,7 @@ use Prim.Native.Nat.{ℕ, _+_, _*_, _/_, _%_, _≤_}
 use lib.ListN.{length}
 use lib.Ieee.{Float}
 use Rattle.length.specs.declared.AvailableSpace.{AvailableSpace}
-use Rattle.steps.specs.Row.{Row, Probe, bit, availableKind, rowNumbers, rowWords, noted, withCode, noProbe, probeNote, probeCode}
+use Rattle.steps.specs.Row.{Row, ProbeWords, bit, availableKind, rowNumbers, rowWords, noted, withCode, noProbe, probeNote, probeCode}
 use Rattle.steps.specs.Results.{listed}
 use Rattle.steps.specs.declared.ProbeInput.{ProbeInput}
 
@@ -20,7 +20,7 @@ abbrev pub Reads : {A : Type 0} → List Float → List ℕ → A → (Row → A
 Reads rs ms v f = (r : Row) (z : List Float) (y : List ℕ) → rs ≡ rowNumbers r ++ z → ms ≡ rowWords r ++ y → v ≡ f r
 
 -- room for a row
-pub record Room (rs : List Float) (ms : List ℕ) : Type 0 where
+pub record OneRow (rs : List Float) (ms : List ℕ) : Type 0 where
   pub rows-some : 16 ≤ length rs
   pub marks-some : 2 ≤ length ms
 

@@ -8,17 +8,17 @@ ghost use Rattle.geometry.specs.Geometry.{zeroF};
 ghost use Rattle.steps.specs.Row.{Row, bit, rowNumbers, rowWords, laidRow, putAt, asideRow, hiddenRow, outputIn, probeOf, availableKind, probeCode, withCode};
 ghost use Rattle.steps.specs.Kept.{finalStands};
 ghost use Rattle.steps.specs.Probe.{probeStands};
-ghost use Rattle.rows.specs.Store.{Becomes, Reads, Room, Whole, AllBecome, headBits, probeBits, probedRow, clearedRow};
+ghost use Rattle.rows.specs.Store.{Becomes, Reads, OneRow, Whole, AllBecome, headBits, probeBits, probedRow, clearedRow};
 ghost use Rattle.rows.specs.Edited.{inRun, touched};
 use geometry::Line;
 use geometry::Point;
 use geometry::Size;
 use length::AvailableSpace;
 use margin::CollapsibleMarginSet;
-use margin::Order;
 use steps::LayoutInput;
 use steps::LayoutOutput;
 use steps::ProbeInput;
+use tree::Order;
 
 pub fn one(b: bool) -> u32
     ensures is { λ r. ⌜ r ≡ bit b ⌝ }
@@ -56,7 +56,7 @@ fn head_bits(old: u32, through: bool, given: bool) -> u32
 
 // A node's own row: the answer, the question as asked; the probe words stay.
 pub fn put_head(rows: &mut [f32], marks: &mut [u32], q: LayoutInput, o: LayoutOutput)
-    requires { ⌜ Room (now rows) (now marks) ⌝ }
+    requires { ⌜ OneRow (now rows) (now marks) ⌝ }
     ensures { λ _. ⌜ Becomes (now (rows .entry)) (now (marks .entry)) (now (rows .exit)) (now (marks .exit)) (λ r. laidRow q o (probeOf r)) ⌝ }
 {
     let known = q.known;
@@ -84,7 +84,7 @@ pub fn put_head(rows: &mut [f32], marks: &mut [u32], q: LayoutInput, o: LayoutOu
 }
 
 pub fn put_place(rows: &mut [f32], marks: &mut [u32], p: Point, order: Order)
-    requires { ⌜ Room (now rows) (now marks) ⌝ }
+    requires { ⌜ OneRow (now rows) (now marks) ⌝ }
     ensures { λ _. ⌜ Becomes (now (rows .entry)) (now (marks .entry)) (now (rows .exit)) (now (marks .exit)) (putAt p (order .0)) ⌝ }
 {
     rows[0] = p.x;
@@ -94,7 +94,7 @@ pub fn put_place(rows: &mut [f32], marks: &mut [u32], p: Point, order: Order)
 
 // An out-of-flow child: its five words, zero below.
 pub fn put_aside(rows: &mut [f32], marks: &mut [u32], edges: Line, line: f32, order: Order)
-    requires { ⌜ Room (now rows) (now marks) ⌝ }
+    requires { ⌜ OneRow (now rows) (now marks) ⌝ }
     ensures numbers { λ _. ⌜ now (rows .exit) ≡ rowNumbers (asideRow (edges .start) line (edges .end) (order .0)) ++ replicate (length (now (rows .entry)) - 16) zeroF ⌝ }
     ensures words { λ _. ⌜ now (marks .exit) ≡ rowWords (asideRow (edges .start) line (edges .end) (order .0)) ++ replicate (length (now (marks .entry)) - 2) 0 ⌝ }
 {
@@ -109,7 +109,7 @@ pub fn put_aside(rows: &mut [f32], marks: &mut [u32], edges: Line, line: f32, or
 
 // A hidden child: its order, zero below.
 pub fn put_hidden(rows: &mut [f32], marks: &mut [u32], count: u32)
-    requires { ⌜ Room (now rows) (now marks) ⌝ }
+    requires { ⌜ OneRow (now rows) (now marks) ⌝ }
     ensures numbers { λ _. ⌜ now (rows .exit) ≡ rowNumbers (hiddenRow count) ++ replicate (length (now (rows .entry)) - 16) zeroF ⌝ }
     ensures words { λ _. ⌜ now (marks .exit) ≡ rowWords (hiddenRow count) ++ replicate (length (now (marks .entry)) - 2) 0 ⌝ }
 {
@@ -120,7 +120,7 @@ pub fn put_hidden(rows: &mut [f32], marks: &mut [u32], count: u32)
 
 // The answer that a laid row holds.
 pub fn output_in(rows: &[f32], marks: &[u32]) -> LayoutOutput
-    requires { ⌜ Room (now rows) (now marks) ⌝ }
+    requires { ⌜ OneRow (now rows) (now marks) ⌝ }
     ensures { λ v. ⌜ Reads (now (rows .entry)) (now (marks .entry)) v outputIn ⌝ }
 {
     let size = Size {
@@ -164,7 +164,7 @@ fn probe_bits(old: u32, a: AvailableSpace, given: bool) -> u32
 
 // A probe's words; the row's old answer may not be kept, so bit 0 goes.
 pub fn note_probe(rows: &mut [f32], marks: &mut [u32], q: ProbeInput, answer: f32)
-    requires { ⌜ Room (now rows) (now marks) ⌝ }
+    requires { ⌜ OneRow (now rows) (now marks) ⌝ }
     ensures { λ _. ⌜ Becomes (now (rows .entry)) (now (marks .entry)) (now (rows .exit)) (now (marks .exit)) (probedRow q answer) ⌝ }
 {
     let available = q.available;
@@ -245,7 +245,7 @@ fn all_five(a: bool, b: bool, c: bool, d: bool, e: bool) -> bool
 
 // A final question stands answered in a row.
 pub fn final_stands(rows: &[f32], marks: &[u32], q: LayoutInput) -> bool
-    requires { ⌜ Room (now rows) (now marks) ⌝ }
+    requires { ⌜ OneRow (now rows) (now marks) ⌝ }
     ensures { λ v. ⌜ Reads (now (rows .entry)) (now (marks .entry)) v (finalStands q) ⌝ }
 {
     let known = q.known;
@@ -264,7 +264,7 @@ pub fn final_stands(rows: &[f32], marks: &[u32], q: LayoutInput) -> bool
 
 // A probe stands answered in a row.
 pub fn probe_stands(rows: &[f32], marks: &[u32], q: ProbeInput) -> bool
-    requires { ⌜ Room (now rows) (now marks) ⌝ }
+    requires { ⌜ OneRow (now rows) (now marks) ⌝ }
     ensures { λ v. ⌜ Reads (now (rows .entry)) (now (marks .entry)) v (probeStands q) ⌝ }
 {
     let available = q.available;

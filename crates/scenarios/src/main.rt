@@ -20,8 +20,8 @@ fn known(width: f32) -> LayoutInput {
         known,
         parent: OptionF32::Some(width),
         available: AvailableSpace::Definite(width),
-        start: false,
-        end: false,
+        collapseStart: false,
+        collapseEnd: false,
         nested: false,
     }
 }
@@ -36,8 +36,8 @@ fn unknown(available: AvailableSpace) -> LayoutInput {
         known,
         parent: OptionF32::Some(320.0),
         available,
-        start: false,
-        end: false,
+        collapseStart: false,
+        collapseEnd: false,
         nested: false,
     }
 }

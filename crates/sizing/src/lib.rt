@@ -1,6 +1,6 @@
 // Steps A to E of one box: its sizes and insets (the crate's compute_block_layout and the start of compute_inner).
 ghost use mathlib.Core.Path.{_≡_};
-ghost use Rattle.steps.specs.Sizing.{boxSize, stepA, decided, knownAxis, stepB, filled, stepD, knownOf, barOf, gutter, insets, stepE};
+ghost use Rattle.steps.specs.Sizing.{boxSize, stepA, decided, knownAxis, stepB, filled, stepD, knownOf, barOf, gutter, insets, contentBasis};
 use geometry::Rect;
 use length::LengthSize;
 use steps::Sizing;
@@ -162,7 +162,7 @@ pub fn content_box_inset(s: Style, both: Rect) -> Rect
 }
 
 pub fn content_basis(known: OptionSize, inset: Rect) -> OptionF32
-    ensures { λ r. ⌜ r ≡ stepE known inset ⌝ }
+    ensures { λ r. ⌜ r ≡ contentBasis known inset ⌝ }
 {
     let w = known.width;
     w.maybe_sub(inset.horizontal_axis_sum())

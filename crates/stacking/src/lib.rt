@@ -2,13 +2,12 @@
 ghost use mathlib.Core.Path.{_≡_};
 ghost use mathlib.Core.Bool.{cond};
 ghost use Prim.Native.Nat.{_+_, _<_};
-ghost use Rattle.steps.specs.Stack.{innerWidth, startOf, negOpt, offsetX, relativeOffset, offsetBy, itemOf, askedWidth, askedHeight, childInput, stepJ, topMargins, bottomMargins, atTop, gapOf, freeOf, shareOf, placeX, placeY, placeOf, pastThrough, pastBox, stepped, lineOf, edgesOf, pastAside, pastHidden, Counts};
+ghost use Rattle.steps.specs.Stack.{innerWidth, startOf, negOpt, offsetX, relativeOffset, offsetBy, itemOf, askedWidth, askedHeight, childInput, questionTo, topMargins, bottomMargins, atTop, gapOf, freeOf, shareOf, placeX, placeY, placeOf, pastThrough, pastBox, stepped, lineOf, edgesOf, pastAside, pastHidden, Counts};
 use geometry::Line;
 use geometry::Point;
 use length::AvailableSpace;
 use length::LengthRect;
 use margin::CollapsibleMarginSet;
-use margin::Order;
 use steps::BlockItem;
 use steps::Cursor;
 use steps::Frame;
@@ -16,6 +15,7 @@ use steps::LayoutInput;
 use steps::LayoutOutput;
 use style::Position;
 use style::Style;
+use tree::Order;
 use util::OptionF32;
 use util::OptionSize;
 
@@ -35,7 +35,7 @@ pub fn start_of(f: Frame) -> Cursor
         strut: CollapsibleMarginSet::zero(),
         top: CollapsibleMarginSet::zero(),
         first: true,
-        through: true,
+        allThrough: true,
         shown: Order(0),
         count: 0,
     }
@@ -155,15 +155,15 @@ fn child_input(f: Frame, s: Style, i: BlockItem) -> LayoutInput
         known,
         parent: OptionF32::Some(inner_width(f)),
         available: AvailableSpace::MaxContent,
-        start: plain,
-        end: plain,
+        collapseStart: plain,
+        collapseEnd: plain,
         nested: true,
     }
 }
 
 // The final question that a container puts to a child.
 pub fn question_to(f: Frame, s: Style) -> LayoutInput
-    ensures { λ r. ⌜ r ≡ stepJ f s ⌝ }
+    ensures { λ r. ⌜ r ≡ questionTo f s ⌝ }
 {
     child_input(f, s, item_of(f, s))
 }
@@ -187,7 +187,7 @@ fn bottom_margins(i: BlockItem, o: LayoutOutput) -> CollapsibleMarginSet
 pub fn at_top(f: Frame, c: Cursor) -> bool
     ensures { λ r. ⌜ r ≡ atTop f c ⌝ }
 {
-    if c.first { f.start } else { false }
+    if c.first { f.ownStart } else { false }
 }
 
 fn gap_of(f: Frame, c: Cursor, t: CollapsibleMarginSet) -> f32
@@ -263,7 +263,7 @@ fn past_through(c: Cursor, t: CollapsibleMarginSet, b: CollapsibleMarginSet) -> 
         strut: strut.collapse_with_set(t).collapse_with_set(b),
         top: pick_set(c.first, top.collapse_with_set(t).collapse_with_set(b), top),
         first: c.first,
-        through: c.through,
+        allThrough: c.allThrough,
         shown: next_shown(shown),
         count: c.count + 1,
     }
@@ -287,7 +287,7 @@ fn past_box(f: Frame, c: Cursor, t: CollapsibleMarginSet, b: CollapsibleMarginSe
         strut: b,
         top: pick_set(c.first, top.collapse_with_set(t), top),
         first: false,
-        through: false,
+        allThrough: false,
         shown: next_shown(shown),
         count: c.count + 1,
     }
@@ -339,7 +339,7 @@ pub fn past_aside(c: Cursor) -> Cursor
         strut,
         top,
         first: c.first,
-        through: c.through,
+        allThrough: c.allThrough,
         shown: next_shown(shown),
         count: c.count + 1,
     }
@@ -357,7 +357,7 @@ pub fn past_hidden(c: Cursor) -> Cursor
         strut,
         top,
         first: c.first,
-        through: c.through,
+        allThrough: c.allThrough,
         shown,
         count: c.count + 1,
     }

@@ -8,7 +8,8 @@ use Rattle.util.specs.declared.OptionF32.the-variants.{None, Some}
 use Rattle.length.specs.declared.AvailableSpace.{AvailableSpace}
 use Rattle.tree.specs.Tree.{Tree, Forest, node, none, more, mapT, mapF}
 use Rattle.tree.proofs.Laws.{mapF-none, map-mapT, map-mapF, map-id-T, map-id-F}
-use Rattle.steps.specs.Width.{isLeaf, stepF}
+use Rattle.style.specs.Flow.{isLeaf}
+use Rattle.steps.specs.Width.{wantOf}
 use Rattle.steps.specs.Page.{Cell, Node, cleared, staying, probedAnew}
 use Rattle.steps.specs.Probe.{Widest, answered, stay, probeT, probeF, asked, blockProbe, probeKnown, spaceIn, widen, passBy, widthPass, askP}
 use Rattle.steps.specs.declared.Want.{Want}
@@ -63,9 +64,9 @@ widen-cells m t g u us e h = rw (e, h m)
 
 more-cells : (t : Tree Cell) (ts : Forest Cell) (a : AvailableSpace) (m : Float) → ((q : ProbeInput) → mapT cellIn (askP t q .nodes) ≡ t) → ((k : Float) → mapF cellIn (probeF ts a k .nodes) ≡ ts)
     → mapF cellIn (probeF (more t ts) a m .nodes) ≡ more t ts
-more-cells t ts a m h r = go (stepF (styleC t) a) refl
+more-cells t ts a m h r = go (wantOf (styleC t) a) refl
   where
-    go : (w : Want) → stepF (styleC t) a ≡ w → mapF cellIn (probeF (more t ts) a m .nodes) ≡ more t ts
+    go : (w : Want) → wantOf (styleC t) a ≡ w → mapF cellIn (probeF (more t ts) a m .nodes) ≡ more t ts
     go Nothing e = rw (probeF-at t ts a m Nothing e) (widen-cells _ _ _ t ts (cleared-cells-T t) r)
     go (Outer v) e = rw (probeF-at t ts a m (Outer v) e) (widen-cells _ _ _ t ts (cleared-cells-T t) r)
     go (want.Probe q) e = rw (probeF-at t ts a m (want.Probe q) e) (widen-cells _ _ _ t ts (h q) r)

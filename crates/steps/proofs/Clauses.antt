@@ -9,17 +9,18 @@ use Rattle.util.specs.declared.OptionF32.the-variants.{None}
 use Rattle.length.specs.declared.AvailableSpace.{AvailableSpace}
 use Rattle.style.specs.declared.Style.{Style}
 use Rattle.tree.specs.Tree.{Tree, Forest, node, none, more, mapT, mapF, rootT}
-use Rattle.steps.specs.Width.{isLeaf, flowOf, stepF, outerWidth, leafWidth}
+use Rattle.style.specs.Flow.{isLeaf, flowOf}
+use Rattle.steps.specs.Width.{wantOf, outerWidth, leafWidth}
 use Rattle.steps.specs.Edges.{frameOf}
-use Rattle.steps.specs.Stack.{startOf, stepJ}
-use Rattle.steps.specs.Height.{finished, leafOutput}
+use Rattle.steps.specs.Stack.{startOf, questionTo}
+use Rattle.steps.specs.Through.{finished, leafOutput}
 use Rattle.steps.specs.Row.{hiddenRow, asideRow, laidRow}
 use Rattle.steps.specs.Page.{Cell, Node, cleared, staying, anyT, anyF}
 use Rattle.steps.specs.Probe.{Probed, Widest, answered, stay, probeT, probeF, askP, asked, blockProbe, probeKnown, spaceIn, widen}
 use Rattle.steps.specs.Kept.{Laid, kept, keep, keptRow, fixT, fixF, belowRow, zerosF}
 use Rattle.steps.specs.Layout.{Stacked, layT, layF, askT, leafLaid, blockLaid, skip, aside, place, alignF}
-use Rattle.steps.specs.declared.Flow.{Flow}
-use Rattle.steps.specs.declared.Flow.the-variants.{Gone, Out, In}
+use Rattle.style.specs.declared.Flow.{Flow}
+use Rattle.style.specs.declared.Flow.the-variants.{Gone, Out, In}
 use Rattle.steps.specs.declared.Want.{Want}
 use Rattle.steps.specs.declared.Want.the-variants.{Nothing, Outer}
 use Rattle.steps.specs.declared.Want.the-variants as want
@@ -68,7 +69,7 @@ unfolding leafLaid
 leaf-rows n ks q found e = rw (layT-leaf n ks q found e)
 
 pub block-rows : (n : Node) (ks : Forest Node) (q : LayoutInput) (found : Float) → isLeaf (n .site .style .kind) ≡ false
-    → layT (node n ks) q found .rows ≡ node (laidRow q (layT (node n ks) q found .out) (n .probe)) (alignF (shiftOf n q found (stackOf n ks q found .end)) (stackOf n ks q found .rows))
+    → layT (node n ks) q found .rows ≡ node (laidRow q (layT (node n ks) q found .out) (n .probe)) (alignF (shiftOf n q found (stackOf n ks q found .last)) (stackOf n ks q found .rows))
 unfolding blockLaid
 block-rows n ks q found e = rw (layT-block n ks q found e)
 
@@ -77,12 +78,12 @@ unfolding leafLaid
 leaf-out n ks q found e = rw (layT-leaf n ks q found e)
 
 pub block-out : (n : Node) (ks : Forest Node) (q : LayoutInput) (found : Float) → isLeaf (n .site .style .kind) ≡ false
-    → layT (node n ks) q found .out ≡ finished (n .site .style) q (frameAt n q found) (stackOf n ks q found .end) .output
+    → layT (node n ks) q found .out ≡ finished (n .site .style) q (frameAt n q found) (stackOf n ks q found .last) .output
 unfolding blockLaid
 block-out n ks q found e = rw (layT-block n ks q found e)
 
 -- the stack
-pub layF-none : (f : Frame) (c : Cursor) → layF none f c ≡ record { end = c; rows = none }
+pub layF-none : (f : Frame) (c : Cursor) → layF none f c ≡ record { last = c; rows = none }
 unfolding layF
 layF-none f c = refl
 
@@ -90,7 +91,7 @@ abbrev pub styleT : Tree Node → Style
 styleT t = rootT t .site .style
 
 abbrev pub placeIn : Tree Node → Forest Node → Frame → Cursor → Stacked
-placeIn t ts f c = place f c (styleT t) (askT t (stepJ f (styleT t))) (layF ts f)
+placeIn t ts f c = place f c (styleT t) (askT t (questionTo f (styleT t))) (layF ts f)
 
 layF-by : (t : Tree Node) (ts : Forest Node) (f : Frame) (c : Cursor)
     → layF (more t ts) f c ≡ byFlow (flowOf (styleT t)) (skip c t (layF ts f)) (aside f c t (layF ts f)) (placeIn t ts f c)
@@ -124,20 +125,20 @@ keep-rows l ks = refl
 
 -- below a kept node
 fixT-by : (l : Node) (ks : Forest Node)
-    → fixT (node l ks) ≡ byFlow (flowOf (l .site .style)) (node (hiddenRow (l .old .order)) (zerosF ks)) (node (asideRow (l .old .x) (l .old .y) (l .old .w) (l .old .order)) (zerosF ks)) (node (belowRow l) (fixF ks))
+    → fixT (node l ks) ≡ byFlow (flowOf (l .site .style)) (node (hiddenRow (l .old .order)) (zerosF ks)) (node (asideRow (l .old .place .x) (l .old .place .y) (l .old .answer .size .width) (l .old .order)) (zerosF ks)) (node (belowRow l) (fixF ks))
 unfolding fixT
 fixT-by l ks = refl
 
 pub fixT-at : (l : Node) (ks : Forest Node) (w : Flow) → flowOf (l .site .style) ≡ w
-    → fixT (node l ks) ≡ byFlow w (node (hiddenRow (l .old .order)) (zerosF ks)) (node (asideRow (l .old .x) (l .old .y) (l .old .w) (l .old .order)) (zerosF ks)) (node (belowRow l) (fixF ks))
+    → fixT (node l ks) ≡ byFlow w (node (hiddenRow (l .old .order)) (zerosF ks)) (node (asideRow (l .old .place .x) (l .old .place .y) (l .old .answer .size .width) (l .old .order)) (zerosF ks)) (node (belowRow l) (fixF ks))
 fixT-at l ks w e =
     fixT-by l ks
-    ∙ ap (λ (v : Flow). byFlow v (node (hiddenRow (l .old .order)) (zerosF ks)) (node (asideRow (l .old .x) (l .old .y) (l .old .w) (l .old .order)) (zerosF ks)) (node (belowRow l) (fixF ks))) e
+    ∙ ap (λ (v : Flow). byFlow v (node (hiddenRow (l .old .order)) (zerosF ks)) (node (asideRow (l .old .place .x) (l .old .place .y) (l .old .answer .size .width) (l .old .order)) (zerosF ks)) (node (belowRow l) (fixF ks))) e
 
 pub fixT-gone : (l : Node) (ks : Forest Node) → flowOf (l .site .style) ≡ Gone → fixT (node l ks) ≡ node (hiddenRow (l .old .order)) (zerosF ks)
 fixT-gone l ks e = fixT-at l ks Gone e
 
-pub fixT-out : (l : Node) (ks : Forest Node) → flowOf (l .site .style) ≡ Out → fixT (node l ks) ≡ node (asideRow (l .old .x) (l .old .y) (l .old .w) (l .old .order)) (zerosF ks)
+pub fixT-out : (l : Node) (ks : Forest Node) → flowOf (l .site .style) ≡ Out → fixT (node l ks) ≡ node (asideRow (l .old .place .x) (l .old .place .y) (l .old .answer .size .width) (l .old .order)) (zerosF ks)
 fixT-out l ks e = fixT-at l ks Out e
 
 pub fixT-in : (l : Node) (ks : Forest Node) → flowOf (l .site .style) ≡ In → fixT (node l ks) ≡ node (belowRow l) (fixF ks)
@@ -215,11 +216,11 @@ probeF-by t ts a m Nothing = refl
 probeF-by t ts a m (Outer v) = refl
 probeF-by t ts a m (want.Probe q) = ap (put t ts a m) (ask-is t q)
 
-pub probeF-more : (t : Tree Cell) (ts : Forest Cell) (a : AvailableSpace) (m : Float) → probeF (more t ts) a m ≡ byF t ts a m (stepF (styleC t) a)
+pub probeF-more : (t : Tree Cell) (ts : Forest Cell) (a : AvailableSpace) (m : Float) → probeF (more t ts) a m ≡ byF t ts a m (wantOf (styleC t) a)
 unfolding probeF
-probeF-more t ts a m = probeF-by t ts a m (stepF (styleC t) a)
+probeF-more t ts a m = probeF-by t ts a m (wantOf (styleC t) a)
 
-pub probeF-at : (t : Tree Cell) (ts : Forest Cell) (a : AvailableSpace) (m : Float) (w : Want) → stepF (styleC t) a ≡ w → probeF (more t ts) a m ≡ byF t ts a m w
+pub probeF-at : (t : Tree Cell) (ts : Forest Cell) (a : AvailableSpace) (m : Float) (w : Want) → wantOf (styleC t) a ≡ w → probeF (more t ts) a m ≡ byF t ts a m w
 probeF-at t ts a m w e = probeF-more t ts a m ∙ ap (λ (v : Want). byF t ts a m v) e
 
 -- some label of a changed tree is such

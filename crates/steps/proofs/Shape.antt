@@ -7,14 +7,14 @@ use Rattle.util.specs.declared.OptionF32.{OptionF32}
 use Rattle.util.specs.declared.OptionF32.the-variants.{None, Some}
 use Rattle.tree.specs.Tree.{Tree, Forest, node, none, more, mapT, mapF, onRoot}
 use Rattle.tree.proofs.Laws.{mapF-none, mapF-more, map-mapT, map-mapF}
-use Rattle.steps.specs.Width.{isLeaf, flowOf}
-use Rattle.steps.specs.Stack.{stepJ, pastAside, pastHidden}
+use Rattle.style.specs.Flow.{isLeaf, flowOf}
+use Rattle.steps.specs.Stack.{questionTo, pastAside, pastHidden}
 use Rattle.steps.specs.Row.{Row, noRow}
 use Rattle.steps.specs.Page.{Node}
 use Rattle.steps.specs.Kept.{Laid, kept, keep, fixT, fixF, zerosT, zerosF}
 use Rattle.steps.specs.Layout.{Stacked, layT, layF, askT, skip, aside, place, lowerF, alignF}
-use Rattle.steps.specs.declared.Flow.{Flow}
-use Rattle.steps.specs.declared.Flow.the-variants.{Gone, Out, In}
+use Rattle.style.specs.declared.Flow.{Flow}
+use Rattle.style.specs.declared.Flow.the-variants.{Gone, Out, In}
 use Rattle.steps.specs.declared.LayoutInput.{LayoutInput}
 use Rattle.steps.specs.declared.Frame.{Frame}
 use Rattle.steps.specs.declared.Cursor.{Cursor}
@@ -92,7 +92,7 @@ more-shape t ts f c h r = rw (mapF-more mute t ts) (go (flowOf (styleT t)) refl)
     go : (w : Flow) → flowOf (styleT t) ≡ w → mapF mute (layF (more t ts) f c .rows) ≡ more (mapT mute t) (mapF mute ts)
     go Gone e = rw (layF-gone t ts f c e, mapF-more, shape-on, shape-zeros-T t, r (pastHidden c))
     go Out e = rw (layF-out t ts f c e, mapF-more, shape-on, shape-zeros-T t, r (pastAside c))
-    go In e = rw (layF-in t ts f c e, mapF-more, shape-on, h (stepJ f (styleT t)), r _)
+    go In e = rw (layF-in t ts f c e, mapF-more, shape-on, h (questionTo f (styleT t)), r _)
 
 mutual
   pub shape-T : (t : Tree Node) (q : LayoutInput) (found : Float) → mapT mute (layT t q found .rows) ≡ mapT mute t

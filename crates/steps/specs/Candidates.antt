@@ -2,13 +2,14 @@
 use mathlib.Core.Bool.{Bool, true, false, cond}
 use mathlib.Core.List.{List, [], _∷_, _++_, map}
 use Prim.Native.Nat.{ℕ, zero, suc, _+_}
-use lib.Ieee.{Float, add, binary32}
+use lib.Ieee.{Float}
+use Rattle.geometry.specs.Floats.{_⊕_}
 use Rattle.style.specs.declared.Style.{Style}
 use Rattle.tree.specs.Tree.{Tree, Forest, node, none, more, countT}
-use Rattle.steps.specs.Width.{flowOf}
+use Rattle.style.specs.Flow.{flowOf}
 use Rattle.steps.specs.Row.{Row, isLaid, isOut}
-use Rattle.steps.specs.declared.Flow.{Flow}
-use Rattle.steps.specs.declared.Flow.the-variants.{Gone, Out, In}
+use Rattle.style.specs.declared.Flow.{Flow}
+use Rattle.style.specs.declared.Flow.the-variants.{Gone, Out, In}
 use Rattle.steps.specs.Page.{Site}
 
 pub record Candidate : Type 0 where
@@ -26,7 +27,7 @@ abbrev pub candidateNumbers : Candidate → List Float
 candidateNumbers c = c .start ∷ c .end ∷ c .line ∷ []
 
 unfoldable pub candidateOf : ℕ → Row → Candidate
-candidateOf b r = record { node = b; order = r .order; start = r .x; end = r .w; line = r .y }
+candidateOf b r = record { node = b; order = r .order; start = r .place .x; end = r .answer .size .width; line = r .place .y }
 
 -- a place is added: x to start and end, y to line
 unfoldable pub movedBy : Row → Candidate → Candidate
@@ -34,9 +35,9 @@ movedBy r c =
     record {
       node = c .node;
       order = c .order;
-      start = add binary32 (c .start) (r .x);
-      end = add binary32 (c .end) (r .x);
-      line = add binary32 (c .line) (r .y);
+      start = c .start ⊕ r .place .x;
+      end = c .end ⊕ r .place .x;
+      line = c .line ⊕ r .place .y;
     }
 
 -- what one child adds, given the list of what is below it: if laid, those, moved by its place; itself if out of flow

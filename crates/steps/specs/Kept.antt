@@ -6,11 +6,11 @@ use Rattle.limits.specs.Limits.{sameF}
 use Rattle.util.specs.Maybe.{orZero, isSome}
 use Rattle.style.specs.Codes.{flagAt}
 use Rattle.tree.specs.Tree.{Tree, Forest, node, none, more, mapT, mapF, rootT}
-use Rattle.steps.specs.Width.{flowOf}
-use Rattle.steps.specs.Row.{Row, Probe, isLaid, noRow, hiddenRow, asideRow, noted, withCode, outputIn}
+use Rattle.style.specs.Flow.{flowOf}
+use Rattle.steps.specs.Row.{Row, ProbeWords, isLaid, noRow, hiddenRow, asideRow, noted, withCode, outputIn}
 use Rattle.steps.specs.Page.{Node, anyT}
-use Rattle.steps.specs.declared.Flow.{Flow}
-use Rattle.steps.specs.declared.Flow.the-variants.{Gone, Out, In}
+use Rattle.style.specs.declared.Flow.{Flow}
+use Rattle.style.specs.declared.Flow.the-variants.{Gone, Out, In}
 use Rattle.steps.specs.declared.LayoutInput.{LayoutInput}
 use Rattle.steps.specs.declared.LayoutOutput.{LayoutOutput}
 
@@ -18,9 +18,9 @@ use Rattle.steps.specs.declared.LayoutOutput.{LayoutOutput}
 unfoldable pub finalStands : LayoutInput → Row → Bool
 finalStands q r =
     isLaid r
-    && (sameF (r .knownW) (orZero (q .known .width))
-    && (sameF (r .knownH) (orZero (q .known .height))
-    && (Bool·beq (flagAt (r .bits) 3) (isSome (q .known .height)) && sameF (r .parent) (orZero (q .parent)))))
+    && (sameF (r .asked .width) (orZero (q .known .width))
+    && (sameF (r .asked .height) (orZero (q .known .height))
+    && (Bool·beq (flagAt (r .bits) 3) (isSome (q .known .height)) && sameF (r .asked .parent) (orZero (q .parent)))))
 
 unfoldable pub editedNode : Node → Bool
 editedNode l = l .site .edit
@@ -53,7 +53,7 @@ unfoldable mutual
   fixT (node l ks) =
       elim (flowOf (l .site .style)) [
         | Gone ↦ node (hiddenRow (l .old .order)) (zerosF ks)
-        | Out ↦ node (asideRow (l .old .x) (l .old .y) (l .old .w) (l .old .order)) (zerosF ks)
+        | Out ↦ node (asideRow (l .old .place .x) (l .old .place .y) (l .old .answer .size .width) (l .old .order)) (zerosF ks)
         | In ↦ node (belowRow l) (fixF ks)
       ]
 

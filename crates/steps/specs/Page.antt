@@ -9,7 +9,7 @@ use Rattle.style.specs.Style.{wordAt, styleAt}
 use Rattle.style.specs.declared.Style.{Style}
 use Rattle.tree.specs.Tree.{Tree, Forest, node, none, more, mapT}
 use Rattle.tree.specs.Table.{Entry, parseT}
-use Rattle.steps.specs.Row.{Row, Probe, rowAt, noRow, noProbe, probeOf}
+use Rattle.steps.specs.Row.{Row, ProbeWords, rowAt, noRow, noProbe, probeOf}
 
 -- a node of the page: its number, its style, and whether the edit list names it
 pub record Site : Type 0 where
@@ -26,7 +26,7 @@ pub record Cell : Type 0 where
 pub record Node : Type 0 where
   pub site : Site
   pub old : Row
-  pub probe : Probe
+  pub probe : ProbeWords
   pub anew : Bool
 
 -- the edit list names node i
@@ -74,7 +74,7 @@ unfoldable pub staying : Cell → Node
 staying l = record { site = l .site; old = l .old; probe = probeOf (l .old); anew = false }
 
 -- a node probed anew
-unfoldable pub probedAnew : Cell → Probe → Node
+unfoldable pub probedAnew : Cell → ProbeWords → Node
 probedAnew l p = record { site = l .site; old = l .old; probe = p; anew = true }
 
 unfoldable pub edits : Cell → Bool

@@ -1,4 +1,10 @@
 -- The width pass: which nodes are probed, what is asked of them, and the probe words that every node is left with.
+--   a probe that stands answered in its row goes no deeper         probeStands, answered, stay
+--   F: a definite available width first loses the insets           spaceIn
+--   F: the largest from 0 over in-flow children                    probeF, over wantOf and outerWidth (Width)
+--   F: then add insets, clamp, larger with padding+border          foundWidth
+--   a probed block: A, B, D, then F                                probeKnown, blockProbe; a probe put anew: probeT
+-- F, whole, of the page: widthPass.
 use mathlib.Core.Bool.{Bool, true, false, cond, not, _&&_, Bool·beq}
 use Prim.Native.Nat.{ℕ, _/_, _%_}
 use lib.Dec.{eqb}
@@ -16,8 +22,9 @@ use Rattle.style.specs.Codes.{flagAt}
 use Rattle.style.specs.declared.Style.{Style}
 use Rattle.tree.specs.Tree.{Tree, Forest, node, none, more, mapT, mapF, rootT}
 use Rattle.steps.specs.Sizing.{stepA, knownOf, insets}
-use Rattle.steps.specs.Width.{isLeaf, stepF, outerWidth, contentWidth, leafWidth}
-use Rattle.steps.specs.Row.{Row, Probe, probeNote, noProbe, availableKind}
+use Rattle.style.specs.Flow.{isLeaf}
+use Rattle.steps.specs.Width.{wantOf, outerWidth, contentWidth, leafWidth}
+use Rattle.steps.specs.Row.{Row, ProbeWords, probeNote, noProbe, availableKind}
 use Rattle.steps.specs.Page.{Cell, Node, anyT, edits, cleared, staying, probedAnew}
 use Rattle.steps.specs.declared.ProbeInput.{ProbeInput}
 use Rattle.steps.specs.declared.LayoutInput.{LayoutInput}
@@ -29,8 +36,8 @@ use Rattle.steps.specs.declared.Want.the-variants as want
 unfoldable pub probeStands : ProbeInput → Row → Bool
 probeStands q r =
     flagAt (r .bits) 4
-    && (sameF (r .probeW) (orZero (definite (q .available)))
-    && (sameF (r .probeH) (orZero (q .height)) && (eqb (r .bits / 32 % 4) (availableKind (q .available)) && Bool·beq (flagAt (r .bits) 7) (isSome (q .height)))))
+    && (sameF (r .probe .width) (orZero (definite (q .available)))
+    && (sameF (r .probe .height) (orZero (q .height)) && (eqb (r .bits / 32 % 4) (availableKind (q .available)) && Bool·beq (flagAt (r .bits) 7) (isSome (q .height)))))
 
 -- a probe that stands so, no edit at or below, is answered by 13 and goes no deeper
 unfoldable pub answered : Tree Cell → ProbeInput → Bool
@@ -55,8 +62,8 @@ unfoldable pub spaceIn : Style → OptionF32 → AvailableSpace → AvailableSpa
 spaceIn s parent a = availableLess a (across (insets s (stepA s parent .both)))
 
 -- F: the width that the widest child gives
-unfoldable pub widthFrom : Style → OptionF32 → Float → Float
-widthFrom s parent most = contentWidth (stepA s parent) (insets s (stepA s parent .both)) most
+unfoldable pub foundWidth : Style → OptionF32 → Float → Float
+foundWidth s parent most = contentWidth (stepA s parent) (insets s (stepA s parent .both)) most
 
 unfoldable pub asked : Cell → ProbeInput → Float → Forest Node → Probed
 asked l q answer ks = record { answer = answer; nodes = node (probedAnew l (probeNote q answer)) ks }
@@ -64,10 +71,10 @@ asked l q answer ks = record { answer = answer; nodes = node (probedAnew l (prob
 -- a probed block: a width that B or D gives, else F
 unfoldable pub blockProbe : Cell → ProbeInput → Forest Cell → OptionF32 → Widest → Probed
 blockProbe l q ks (Some w) r = asked l q w (mapF cleared ks)
-blockProbe l q ks None r = asked l q (widthFrom (l .site .style) None (r .most)) (r .nodes)
+blockProbe l q ks None r = asked l q (foundWidth (l .site .style) None (r .most)) (r .nodes)
 
 unfoldable pub stay : Tree Cell → Probed
-stay t = record { answer = rootT t .old .answer; nodes = mapT staying t }
+stay t = record { answer = rootT t .old .probe .answer; nodes = mapT staying t }
 
 unfoldable pub widen : Float → Tree Node → (Float → Widest) → Widest
 widen m t rest =
@@ -86,7 +93,7 @@ unfoldable mutual
   pub probeF : Forest Cell → AvailableSpace → Float → Widest
   probeF none a m = record { most = m; nodes = none }
   probeF (more t ts) a m =
-      elim (stepF (rootT t .site .style) a) [
+      elim (wantOf (rootT t .site .style) a) [
         | Nothing ↦ widen m (mapT cleared t) (probeF ts a)
         | Outer w ↦ widen (larger m w) (mapT cleared t) (probeF ts a)
         | want.Probe q ↦
@@ -105,7 +112,7 @@ pub record Passed : Type 0 where
 
 unfoldable pub passBy : Cell → Forest Cell → OptionF32 → OptionF32 → Widest → Passed
 passBy l ks (Some w) parent r = record { found = zeroF; nodes = node (cleared l) (mapF cleared ks) }
-passBy l ks None parent r = record { found = widthFrom (l .site .style) parent (r .most); nodes = node (cleared l) (r .nodes) }
+passBy l ks None parent r = record { found = foundWidth (l .site .style) parent (r .most); nodes = node (cleared l) (r .nodes) }
 
 unfoldable pub widthPass : Tree Cell → LayoutInput → Passed
 widthPass (node l ks) q =

@@ -7,24 +7,17 @@ use lib.Ieee.{Float}
 use Rattle.geometry.specs.Geometry.{zeroF}
 use Rattle.geometry.specs.declared.Size.{Size}
 use Rattle.limits.specs.Limits.{tooLarge}
-use Rattle.util.specs.Maybe.{unwrapOr}
-use Rattle.util.specs.declared.OptionF32.{OptionF32}
-use Rattle.util.specs.declared.OptionF32.the-variants.{None, Some}
-use Rattle.util.specs.declared.OptionSize.{OptionSize}
-use Rattle.style.specs.declared.Style.{Style}
-use Rattle.tree.specs.Tree.{Tree, Forest, node, flatT, mapT, rootT}
-use Rattle.steps.specs.Sizing.{stepA, stepB, stepD}
+use Rattle.tree.specs.Tree.{Tree, flatT}
 use Rattle.steps.specs.Scan.{lowest}
 use Rattle.steps.specs.Row.{Row, rowNumbers, rowWords}
-use Rattle.steps.specs.Page.{Site, Cell, nodesIn, pageOf, cellsOf, blank}
-use Rattle.steps.specs.Probe.{widthPass}
+use Rattle.steps.specs.Page.{nodesIn, pageOf, cellsOf}
 use Rattle.steps.specs.Kept.{Laid}
 use Rattle.steps.specs.Layout.{relaid, fresh}
 use Rattle.steps.specs.Candidates.{Candidate, candidates, candidateWords, candidateNumbers}
+use Rattle.steps.specs.SizeQuestion.{axes, sizeOf}
 use Rattle.steps.specs.Noes.{paper, badRow, layoutTested, relayoutTested, sizeTested}
 use Rattle.steps.specs.declared.LayoutInput.{LayoutInput}
 use Rattle.steps.specs.declared.RequestedAxis.{RequestedAxis}
-use Rattle.steps.specs.declared.RequestedAxis.the-variants.{Horizontal, Both}
 use Rattle.steps.specs.declared.Answer.{Answer}
 use Rattle.steps.specs.declared.Answer.the-variants.{Done, TooLarge}
 use Rattle.steps.specs.declared.SizeAnswer.{SizeAnswer}
@@ -92,39 +85,6 @@ layoutResult ws xs rs ms cw cx q =
 unfoldable pub relayoutResult : List ℕ → List Float → List Float → List ℕ → List ℕ → List Float → List ℕ → LayoutInput → Reply
 relayoutResult ws xs rs ms cw cx es q =
     tested (relayoutTested ws xs rs ms cw cx es q) (replied (nodesIn ws) (relaid (cellsOf ws xs rs ms es) q .rows) rs ms cw cx) rs ms cw cx
-
--- C: both known answers them; width-only with width known, (width, 0)
--- G: known height answers as it is; width-only answers (width, 0)
-unfoldable pub axes : Float → Float → Size
-axes w h = record { width = w; height = h }
-
--- G, with the width settled
-unfoldable pub stepG : RequestedAxis → Float → OptionF32 → Size → Size
-stepG a width (Some h) whole = axes width h
-stepG Horizontal width None whole = axes width zeroF
-stepG Both width None whole = whole
-
--- D, F and G
-unfoldable pub sizeBelow : RequestedAxis → OptionSize → Float → Size → Size
-sizeBelow a known found whole = stepG a (unwrapOr (known .width) found) (known .height) whole
-
--- C, with the width known
-unfoldable pub widthKnown : RequestedAxis → Float → OptionF32 → Size → Size
-widthKnown a w (Some h) rest = axes w h
-widthKnown Horizontal w None rest = axes w zeroF
-widthKnown Both w None rest = rest
-
--- C, before D
-unfoldable pub stepC : RequestedAxis → OptionF32 → OptionF32 → Size → Size
-stepC a (Some w) h rest = widthKnown a w h rest
-stepC a None h rest = rest
-
--- the size of a page: C, D, F, G, else the whole layout's
-unfoldable pub sizeOf : Tree Site → LayoutInput → RequestedAxis → Size
-sizeOf (node l ks) q a =
-    let z = stepA (l .style) (q .parent) in
-    let b = stepB z (q .known) in
-    stepC a (b .width) (b .height) (sizeBelow a (stepD (l .style) z b) (widthPass (mapT blank (node l ks)) q .found) (fresh (node l ks) q .out .size))
 
 -- 8 tests only the answer, at place 0
 unfoldable pub sizeReply : Size → SizeAnswer

@@ -1,15 +1,14 @@
--- A result row: 16 numbers, order and bits.
+-- A result row: 16 numbers, order and bits, in groups. Of an out-of-flow child, place and width hold start, line and end.
 use mathlib.Core.Bool.{Bool, true, false, cond, _||_}
 use mathlib.Core.List.{List, [], _∷_}
 use Prim.Native.Nat.{ℕ, _+_, _*_, _/_, _%_}
 use lib.ListN.{getD}
-use lib.Ieee.{Float, add, binary32}
+use lib.Ieee.{Float}
+use Rattle.geometry.specs.Floats.{_⊕_}
 use Rattle.geometry.specs.Geometry.{zeroF}
 use Rattle.geometry.specs.declared.Point.{Point}
-use Rattle.geometry.specs.declared.Line.{Line}
+use Rattle.geometry.specs.declared.Size.{Size}
 use Rattle.util.specs.Maybe.{orZero, isSome}
-use Rattle.util.specs.declared.OptionF32.{OptionF32}
-use Rattle.util.specs.declared.OptionF32.the-variants.{None, Some}
 use Rattle.length.specs.Available.{definite}
 use Rattle.length.specs.declared.AvailableSpace.{AvailableSpace}
 use Rattle.length.specs.declared.AvailableSpace.the-variants.{Definite, MinContent, MaxContent}
@@ -20,35 +19,59 @@ use Rattle.steps.specs.declared.LayoutInput.{LayoutInput}
 use Rattle.steps.specs.declared.LayoutOutput.{LayoutOutput}
 use Rattle.steps.specs.declared.ProbeInput.{ProbeInput}
 
--- the probe words: numbers 11-13, and bits 4-7 as a number below 16
-pub record Probe : Type 0 where
+-- numbers 2-7: the size, the top set, the bottom set
+pub record RowAnswer : Type 0 where
+  pub size : Size
+  pub top : CollapsibleMarginSet
+  pub bottom : CollapsibleMarginSet
+
+-- numbers 8-10: known width, known height, parent width as asked
+pub record RowAsked : Type 0 where
+  pub width : Float
+  pub height : Float
+  pub parent : Float
+
+-- numbers 11-13: the probe's definite available width, its known height, its answer
+pub record RowProbe : Type 0 where
   pub width : Float
   pub height : Float
   pub answer : Float
-  pub code : ℕ
 
+-- numbers 14-15
+pub record RowSpare : Type 0 where
+  pub first : Float
+  pub second : Float
+
+-- numbers 0-1 are the place
 pub record Row : Type 0 where
-  pub x : Float
-  pub y : Float
-  pub w : Float
-  pub h : Float
-  pub top : CollapsibleMarginSet
-  pub bottom : CollapsibleMarginSet
-  pub knownW : Float
-  pub knownH : Float
-  pub parent : Float
-  pub probeW : Float
-  pub probeH : Float
-  pub answer : Float
-  pub spare : Float
-  pub spare2 : Float
+  pub place : Point
+  pub answer : RowAnswer
+  pub asked : RowAsked
+  pub probe : RowProbe
+  pub spare : RowSpare
   pub order : ℕ
   pub bits : ℕ
 
 -- the 16 numbers, and the two words
 abbrev pub rowNumbers : Row → List Float
 rowNumbers r =
-    r .x ∷ r .y ∷ r .w ∷ r .h ∷ r .top .positive ∷ r .top .negative ∷ r .bottom .positive ∷ r .bottom .negative ∷ r .knownW ∷ r .knownH ∷ r .parent ∷ r .probeW ∷ r .probeH ∷ r .answer ∷ r .spare ∷ r .spare2 ∷ []
+    r .place .x
+    ∷ r .place .y
+    ∷ r .answer .size .width
+    ∷ r .answer .size .height
+    ∷ r .answer .top .positive
+    ∷ r .answer .top .negative
+    ∷ r .answer .bottom .positive
+    ∷ r .answer .bottom .negative
+    ∷ r .asked .width
+    ∷ r .asked .height
+    ∷ r .asked .parent
+    ∷ r .probe .width
+    ∷ r .probe .height
+    ∷ r .probe .answer
+    ∷ r .spare .first
+    ∷ r .spare .second
+    ∷ []
 
 abbrev pub rowWords : Row → List ℕ
 rowWords r = r .order ∷ r .bits ∷ []
@@ -57,20 +80,16 @@ rowWords r = r .order ∷ r .bits ∷ []
 abbrev pub rowAt : List Float → List ℕ → ℕ → Row
 rowAt rs ms i =
     record {
-      x = getD rs (16 * i) zeroF;
-      y = getD rs (16 * i + 1) zeroF;
-      w = getD rs (16 * i + 2) zeroF;
-      h = getD rs (16 * i + 3) zeroF;
-      top = record { positive = getD rs (16 * i + 4) zeroF; negative = getD rs (16 * i + 5) zeroF };
-      bottom = record { positive = getD rs (16 * i + 6) zeroF; negative = getD rs (16 * i + 7) zeroF };
-      knownW = getD rs (16 * i + 8) zeroF;
-      knownH = getD rs (16 * i + 9) zeroF;
-      parent = getD rs (16 * i + 10) zeroF;
-      probeW = getD rs (16 * i + 11) zeroF;
-      probeH = getD rs (16 * i + 12) zeroF;
-      answer = getD rs (16 * i + 13) zeroF;
-      spare = getD rs (16 * i + 14) zeroF;
-      spare2 = getD rs (16 * i + 15) zeroF;
+      place = record { x = getD rs (16 * i) zeroF; y = getD rs (16 * i + 1) zeroF };
+      answer =
+          record {
+            size = record { width = getD rs (16 * i + 2) zeroF; height = getD rs (16 * i + 3) zeroF };
+            top = record { positive = getD rs (16 * i + 4) zeroF; negative = getD rs (16 * i + 5) zeroF };
+            bottom = record { positive = getD rs (16 * i + 6) zeroF; negative = getD rs (16 * i + 7) zeroF };
+          };
+      asked = record { width = getD rs (16 * i + 8) zeroF; height = getD rs (16 * i + 9) zeroF; parent = getD rs (16 * i + 10) zeroF };
+      probe = record { width = getD rs (16 * i + 11) zeroF; height = getD rs (16 * i + 12) zeroF; answer = getD rs (16 * i + 13) zeroF };
+      spare = record { first = getD rs (16 * i + 14) zeroF; second = getD rs (16 * i + 15) zeroF };
       order = getD ms (2 * i) 0;
       bits = getD ms (2 * i + 1) 0;
     }
@@ -92,146 +111,95 @@ availableKind (Definite a) = 1
 availableKind MinContent = 2
 availableKind MaxContent = 3
 
+-- bits 4-7 as a number below 16
 unfoldable pub probeCode : ProbeInput → ℕ
 probeCode q = 1 + 2 * availableKind (q .available) + 8 * bit (isSome (q .height))
 
-unfoldable pub noProbe : Probe
-noProbe = record { width = zeroF; height = zeroF; answer = zeroF; code = 0 }
+-- the probe words: numbers 11-13 and bits 4-7
+pub record ProbeWords : Type 0 where
+  pub numbers : RowProbe
+  pub code : ℕ
+
+unfoldable pub noProbe : ProbeWords
+noProbe = record { numbers = record { width = zeroF; height = zeroF; answer = zeroF }; code = 0 }
 
 -- a probe and its answer, as they are noted; absent values are 0
-unfoldable pub probeNote : ProbeInput → Float → Probe
-probeNote q answer = record { width = orZero (definite (q .available)); height = orZero (q .height); answer = answer; code = probeCode q }
+unfoldable pub probeNote : ProbeInput → Float → ProbeWords
+probeNote q answer = record { numbers = record { width = orZero (definite (q .available)); height = orZero (q .height); answer = answer }; code = probeCode q }
 
 -- the probe words that a row has
-unfoldable pub probeOf : Row → Probe
-probeOf r = record { width = r .probeW; height = r .probeH; answer = r .answer; code = r .bits / 16 % 16 }
+unfoldable pub probeOf : Row → ProbeWords
+probeOf r = record { numbers = r .probe; code = r .bits / 16 % 16 }
 
 -- bits with other probe bits
 unfoldable pub withCode : ℕ → ℕ → ℕ
 withCode b code = b % 16 + 16 * code + 256 * (b / 256)
 
 -- a row with other probe words and bits
-unfoldable pub noted : Row → Probe → ℕ → Row
-noted r p bits =
-    record {
-      x = r .x;
-      y = r .y;
-      w = r .w;
-      h = r .h;
-      top = r .top;
-      bottom = r .bottom;
-      knownW = r .knownW;
-      knownH = r .knownH;
-      parent = r .parent;
-      probeW = p .width;
-      probeH = p .height;
-      answer = p .answer;
-      spare = r .spare;
-      spare2 = r .spare2;
-      order = r .order;
-      bits = bits;
-    }
+unfoldable pub noted : Row → ProbeWords → ℕ → Row
+noted r p bits = record { place = r .place; answer = r .answer; asked = r .asked; probe = p .numbers; spare = r .spare; order = r .order; bits = bits }
 
--- a row that is zero but for three numbers, order and bits
-unfoldable pub bare : Float → Float → Float → ℕ → ℕ → Row
-bare x y w order bits =
+abbrev pub noSpare : RowSpare
+noSpare = record { first = zeroF; second = zeroF }
+
+-- a row that is zero but for place, width, order and bits
+unfoldable pub bare : Point → Float → ℕ → ℕ → Row
+bare place width order bits =
     record {
-      x = x;
-      y = y;
-      w = w;
-      h = zeroF;
-      top = noMargins;
-      bottom = noMargins;
-      knownW = zeroF;
-      knownH = zeroF;
-      parent = zeroF;
-      probeW = zeroF;
-      probeH = zeroF;
-      answer = zeroF;
-      spare = zeroF;
-      spare2 = zeroF;
+      place = place;
+      answer = record { size = record { width = width; height = zeroF }; top = noMargins; bottom = noMargins };
+      asked = record { width = zeroF; height = zeroF; parent = zeroF };
+      probe = record { width = zeroF; height = zeroF; answer = zeroF };
+      spare = noSpare;
       order = order;
       bits = bits;
     }
 
+abbrev pub origin : Point
+origin = record { x = zeroF; y = zeroF }
+
 -- a row of zeros
 unfoldable pub noRow : Row
-noRow = bare zeroF zeroF zeroF 0 0
+noRow = bare origin zeroF 0 0
 
 -- a hidden child's row: its order alone
 unfoldable pub hiddenRow : ℕ → Row
-hiddenRow order = bare zeroF zeroF zeroF order 0
+hiddenRow order = bare origin zeroF order 0
 
 -- a shown out-of-flow child's row: start, line, end, its order and bit 2
 unfoldable pub asideRow : Float → Float → Float → ℕ → Row
-asideRow start line end order = bare start line end order 4
+asideRow start line end order = bare (record { x = start; y = line }) end order 4
 
 -- a laid row at 0, 0: the answer, the question as asked, the probe words
-unfoldable pub laidRow : LayoutInput → LayoutOutput → Probe → Row
+unfoldable pub laidRow : LayoutInput → LayoutOutput → ProbeWords → Row
 laidRow q o p =
     record {
-      x = zeroF;
-      y = zeroF;
-      w = o .size .width;
-      h = o .size .height;
-      top = o .top;
-      bottom = o .bottom;
-      knownW = orZero (q .known .width);
-      knownH = orZero (q .known .height);
-      parent = orZero (q .parent);
-      probeW = p .width;
-      probeH = p .height;
-      answer = p .answer;
-      spare = zeroF;
-      spare2 = zeroF;
+      place = origin;
+      answer = record { size = o .size; top = o .top; bottom = o .bottom };
+      asked = record { width = orZero (q .known .width); height = orZero (q .known .height); parent = orZero (q .parent) };
+      probe = p .numbers;
+      spare = noSpare;
       order = 0;
       bits = 1 + 2 * bit (o .through) + 8 * bit (isSome (q .known .height)) + 16 * p .code;
     }
 
 -- the answer that a laid row holds
 unfoldable pub outputIn : Row → LayoutOutput
-outputIn r = record { size = record { width = r .w; height = r .h }; top = r .top; bottom = r .bottom; through = flagAt (r .bits) 1 }
+outputIn r = record { size = r .answer .size; top = r .answer .top; bottom = r .answer .bottom; through = flagAt (r .bits) 1 }
 
 -- a row put at its place among its siblings
 unfoldable pub putAt : Point → ℕ → Row → Row
-putAt p order r =
-    record {
-      x = p .x;
-      y = p .y;
-      w = r .w;
-      h = r .h;
-      top = r .top;
-      bottom = r .bottom;
-      knownW = r .knownW;
-      knownH = r .knownH;
-      parent = r .parent;
-      probeW = r .probeW;
-      probeH = r .probeH;
-      answer = r .answer;
-      spare = r .spare;
-      spare2 = r .spare2;
-      order = order;
-      bits = r .bits;
-    }
+putAt p order r = record { place = p; answer = r .answer; asked = r .asked; probe = r .probe; spare = r .spare; order = order; bits = r .bits }
 
 -- M: the shift on a place y or a line; rows that are neither laid nor out of flow stay
 unfoldable pub lowered : Float → Row → Row
 lowered d r =
     record {
-      x = r .x;
-      y = cond (isLaid r || isOut r) (add binary32 (r .y) d) (r .y);
-      w = r .w;
-      h = r .h;
-      top = r .top;
-      bottom = r .bottom;
-      knownW = r .knownW;
-      knownH = r .knownH;
-      parent = r .parent;
-      probeW = r .probeW;
-      probeH = r .probeH;
+      place = record { x = r .place .x; y = cond (isLaid r || isOut r) (r .place .y ⊕ d) (r .place .y) };
       answer = r .answer;
+      asked = r .asked;
+      probe = r .probe;
       spare = r .spare;
-      spare2 = r .spare2;
       order = r .order;
       bits = r .bits;
     }

@@ -1,4 +1,9 @@
--- Steps A to E: a box's own numbers.
+-- Steps A, B, D and E: a box's own numbers.
+--   A  padding, border and sizes resolved; ratio; content-box      boxSize, sizedBy; whole: stepA
+--   B  asked, else min where max <= min, else clamped; floored     decided, knownAxis; whole: stepB
+--   D  ratio fills a missing axis, clamped                         filled; whole: stepD
+--   A, B and D of the known sizes                                  knownOf
+--   E  insets; the width that children's numbers resolve against   barOf, gutter, insets; contentBasis
 use mathlib.Core.Bool.{Bool, true, false, cond}
 use lib.Ieee.{Float, le}
 use Rattle.geometry.specs.Geometry.{zeroF, across, down, sumAxes, plus}
@@ -22,7 +27,8 @@ heightBasis = None
 -- A: a size against the parent width; ratio, then add padding+border if content-box
 unfoldable pub boxSize : Style → LengthSize → OptionF32 → Rect → OptionSize
 boxSize s l basis both =
-    cond (s .content) (addSize (ratioFills (resolvedSize l basis heightBasis) (s .ratio)) (sumAxes both)) (ratioFills (resolvedSize l basis heightBasis) (s .ratio))
+    let size = ratioFills (resolvedSize l basis heightBasis) (s .ratio) in
+    cond (s .content) (addSize size (sumAxes both)) size
 
 -- A with padding and border at hand
 unfoldable pub sizedBy : Style → OptionF32 → Rect → Rect → Rect → Sizing
@@ -39,8 +45,9 @@ sizedBy s basis padding border both =
 -- A: resolve padding, border, sizes
 unfoldable pub stepA : Style → OptionF32 → Sizing
 stepA s basis =
-    sizedBy s basis (resolvedRect (s .padding) basis) (resolvedRect (s .border) basis)
-    (plus (resolvedRect (s .padding) basis) (resolvedRect (s .border) basis))
+    let padding = resolvedRect (s .padding) basis in
+    let border = resolvedRect (s .border) basis in
+    sizedBy s basis padding border (plus padding border)
 
 -- B: min where max <= min
 unfoldable pub decided : OptionF32 → OptionF32 → OptionF32
@@ -97,5 +104,5 @@ unfoldable pub insets : Style → Rect → Rect
 insets s both = plus both (gutter s)
 
 -- E: child numbers resolve against known width less insets, else no basis
-unfoldable pub stepE : OptionSize → Rect → OptionF32
-stepE known inset = subOpt (known .width) (across inset)
+unfoldable pub contentBasis : OptionSize → Rect → OptionF32
+contentBasis known inset = subOpt (known .width) (across inset)

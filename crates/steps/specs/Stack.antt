@@ -1,7 +1,14 @@
--- Step J: the children of a block, one below the other.
+-- Step J, child by child: what is asked of it, where it stands, and how the stack goes on.
+--   margins and side offsets against inner width                   innerWidth, itemOf, relativeOffset
+--   known sizes clamped, larger with padding+border; parent inner  askedWidth, askedHeight, childInput; the question: questionTo
+--   T and B; gap; free; place x and y                              topMargins, bottomMargins, gapOf, freeOf, shareOf; placeOf
+--   through, or else: strut, top set, y                            pastThrough, pastBox; the next cursor: stepped
+--   an out-of-flow child's line, start and end                     lineOf, edgesOf; pastAside, pastHidden
+-- J, whole: layF (Layout), from startOf on, with place, aside and skip for the three kinds of children.
 use mathlib.Core.Bool.{Bool, true, false, cond, not, _&&_}
 use Prim.Native.Nat.{_+_, _<_}
-use lib.Ieee.{Float, add, sub, div, neg, binary32}
+use lib.Ieee.{Float, neg}
+use Rattle.geometry.specs.Floats.{_⊕_, _⊖_, _⊘_}
 use Rattle.geometry.specs.Geometry.{zeroF, across, down}
 use Rattle.geometry.specs.declared.Point.{Point}
 use Rattle.geometry.specs.declared.Line.{Line}
@@ -20,7 +27,7 @@ use Rattle.margin.specs.Margin.{noMargins, joined, joinedWith, sumOf}
 use Rattle.margin.specs.declared.CollapsibleMarginSet.{CollapsibleMarginSet}
 use Rattle.alignment.specs.Align.{twoF}
 use Rattle.steps.specs.Sizing.{heightBasis, stepA}
-use Rattle.steps.specs.Edges.{plainBlock}
+use Rattle.steps.specs.Context.{plainBlock}
 use Rattle.steps.specs.declared.LayoutInput.{LayoutInput}
 use Rattle.steps.specs.declared.LayoutOutput.{LayoutOutput}
 use Rattle.steps.specs.declared.Frame.{Frame}
@@ -29,11 +36,11 @@ use Rattle.steps.specs.declared.Cursor.{Cursor}
 
 -- inner is W less insets
 unfoldable pub innerWidth : Frame → Float
-innerWidth f = sub binary32 (f .width) (across (f .inset))
+innerWidth f = f .width ⊖ across (f .inset)
 
 -- y is the top inset; the sets are empty, nothing is stacked yet
 unfoldable pub startOf : Frame → Cursor
-startOf f = record { y = f .inset .top; strut = noMargins; top = noMargins; first = true; through = true; shown = record { 0 = 0 }; count = 0 }
+startOf f = record { y = f .inset .top; strut = noMargins; top = noMargins; first = true; allThrough = true; shown = record { 0 = 0 }; count = 0 }
 
 unfoldable pub negOpt : OptionF32 → OptionF32
 negOpt None = None
@@ -70,9 +77,8 @@ itemOf f s =
 -- width = size or inner - margins, clamped, larger with padding+border
 unfoldable pub askedWidth : Frame → BlockItem → Float
 askedWidth f i =
-    larger
-    (clamped (unwrapOr (i .sizing .size .width) (sub binary32 (innerWidth f) (across (i .margin)))) (i .sizing .min .width) (i .sizing .max .width))
-    (across (i .sizing .both))
+    let width = unwrapOr (i .sizing .size .width) (innerWidth f ⊖ across (i .margin)) in
+    larger (clamped width (i .sizing .min .width) (i .sizing .max .width)) (across (i .sizing .both))
 
 -- a height is asked only if the size has one
 unfoldable pub askedHeight : BlockItem → OptionF32
@@ -85,13 +91,14 @@ childInput f s i =
       known = record { width = Some (askedWidth f i); height = askedHeight i };
       parent = Some (innerWidth f);
       available = MaxContent;
-      start = plainBlock s;
-      end = plainBlock s;
+      collapseStart = plainBlock s;
+      collapseEnd = plainBlock s;
       nested = true;
     }
 
-unfoldable pub stepJ : Frame → Style → LayoutInput
-stepJ f s = childInput f s (itemOf f s)
+-- the question put to a child with this style
+unfoldable pub questionTo : Frame → Style → LayoutInput
+questionTo f s = childInput f s (itemOf f s)
 
 -- T and B: its sets joined with its own margins
 unfoldable pub topMargins : BlockItem → LayoutOutput → CollapsibleMarginSet
@@ -102,7 +109,7 @@ bottomMargins i o = joinedWith (o .bottom) (i .margin .bottom)
 
 -- still at the top with own start
 unfoldable pub atTop : Frame → Cursor → Bool
-atTop f c = c .first && f .start
+atTop f c = c .first && f .ownStart
 
 -- gap is 0 while still at the top with own start, else the sum of strut joined T
 unfoldable pub gapOf : Frame → Cursor → CollapsibleMarginSet → Float
@@ -110,22 +117,23 @@ gapOf f c t = cond (atTop f c) zeroF (sumOf (joined (c .strut) t))
 
 -- free = larger(0, (inner-w)-margins)
 unfoldable pub freeOf : Frame → BlockItem → Float → Float
-freeOf f i w = larger zeroF (sub binary32 (sub binary32 (innerWidth f) w) (across (i .margin)))
+freeOf f i w = larger zeroF ((innerWidth f ⊖ w) ⊖ across (i .margin))
 
 -- free space to one auto margin, or half to each
 unfoldable pub shareOf : Bool → Bool → Float → Float → Float
-shareOf own other margin free = cond own (cond other (div binary32 free twoF) free) margin
+shareOf own other margin free = cond own (cond other (free ⊘ twoF) free) margin
 
 -- place x: LTR (left inset+left margin)+offset; RTL (((W-right inset)-right margin)-w)+offset
 unfoldable pub placeX : Frame → BlockItem → Float → Float
 placeX f i w =
-    cond (f .rtl)
-    (add binary32 (sub binary32 (sub binary32 (sub binary32 (f .width) (f .inset .right)) (shareOf (i .right) (i .left) (i .margin .right) (freeOf f i w))) w) (i .offset .x))
-    (add binary32 (add binary32 (f .inset .left) (shareOf (i .left) (i .right) (i .margin .left) (freeOf f i w))) (i .offset .x))
+    let free = freeOf f i w in
+    let right = shareOf (i .right) (i .left) (i .margin .right) free in
+    let left = shareOf (i .left) (i .right) (i .margin .left) free in
+    cond (f .rtl) ((((f .width ⊖ f .inset .right) ⊖ right) ⊖ w) ⊕ i .offset .x) ((f .inset .left ⊕ left) ⊕ i .offset .x)
 
 -- place y: (y+gap)+offset
 unfoldable pub placeY : Frame → Cursor → BlockItem → LayoutOutput → Float
-placeY f c i o = add binary32 (add binary32 (c .y) (gapOf f c (topMargins i o))) (i .offset .y)
+placeY f c i o = (c .y ⊕ gapOf f c (topMargins i o)) ⊕ i .offset .y
 
 unfoldable pub placeOf : Frame → Cursor → BlockItem → LayoutOutput → Point
 placeOf f c i o = record { x = placeX f i (o .size .width); y = placeY f c i o }
@@ -138,7 +146,7 @@ pastThrough c t b =
       strut = joined (joined (c .strut) t) b;
       top = cond (c .first) (joined (joined (c .top) t) b) (c .top);
       first = c .first;
-      through = c .through;
+      allThrough = c .allThrough;
       shown = record { 0 = c .shown .0 + 1 };
       count = c .count + 1;
     }
@@ -147,11 +155,11 @@ pastThrough c t b =
 unfoldable pub pastBox : Frame → Cursor → CollapsibleMarginSet → CollapsibleMarginSet → Float → Cursor
 pastBox f c t b h =
     record {
-      y = add binary32 (add binary32 (c .y) (gapOf f c t)) h;
+      y = (c .y ⊕ gapOf f c t) ⊕ h;
       strut = b;
       top = cond (c .first) (joined (c .top) t) (c .top);
       first = false;
-      through = false;
+      allThrough = false;
       shown = record { 0 = c .shown .0 + 1 };
       count = c .count + 1;
     }
@@ -162,19 +170,19 @@ stepped f c i o =
 
 -- out-of-flow line: y + strut's sum (0 instead while at the top with own start)
 unfoldable pub lineOf : Frame → Cursor → Float
-lineOf f c = add binary32 (c .y) (cond (atTop f c) zeroF (sumOf (c .strut)))
+lineOf f c = c .y ⊕ cond (atTop f c) zeroF (sumOf (c .strut))
 
 -- start and end are the inner edges
 unfoldable pub edgesOf : Frame → Line
-edgesOf f = record { start = f .inset .left; end = sub binary32 (f .width) (f .inset .right) }
+edgesOf f = record { start = f .inset .left; end = f .width ⊖ f .inset .right }
 
 -- past an out-of-flow child, which counts as shown, and past a hidden one, which does not
 unfoldable pub pastAside : Cursor → Cursor
 pastAside c =
-    record { y = c .y; strut = c .strut; top = c .top; first = c .first; through = c .through; shown = record { 0 = c .shown .0 + 1 }; count = c .count + 1 }
+    record { y = c .y; strut = c .strut; top = c .top; first = c .first; allThrough = c .allThrough; shown = record { 0 = c .shown .0 + 1 }; count = c .count + 1 }
 
 unfoldable pub pastHidden : Cursor → Cursor
-pastHidden c = record { y = c .y; strut = c .strut; top = c .top; first = c .first; through = c .through; shown = c .shown; count = c .count + 1 }
+pastHidden c = record { y = c .y; strut = c .strut; top = c .top; first = c .first; allThrough = c .allThrough; shown = c .shown; count = c .count + 1 }
 
 -- the counts of a cursor have room for one more
 pub record Counts (c : Cursor) : Type 0 where

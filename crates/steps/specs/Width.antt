@@ -1,6 +1,12 @@
--- Step F: an unknown width, and what it asks of the children. A leaf's width.
-use mathlib.Core.Bool.{Bool, true, false, cond}
-use lib.Ieee.{Float, add, binary32}
+-- Step F: what an unknown width wants of each child, and what it makes of their widths. A leaf's width.
+--   a child's margins, against the definite width                  sideMargins
+--   larger(clamped width, its padding+border) + margins            outerOf, outerWidth
+--   a child without width is probed: what is asked of it           wantBy, wantSized, wantIn; one child: wantOf
+--   then add insets, clamp, larger with padding+border             contentWidth
+--   a leaf's table                                                 leafWidth
+-- F, whole: probeF and foundWidth (Probe), one child after the other, and into the probed ones.
+use lib.Ieee.{Float}
+use Rattle.geometry.specs.Floats.{_⊕_}
 use Rattle.geometry.specs.Geometry.{across}
 use Rattle.geometry.specs.declared.Rect.{Rect}
 use Rattle.util.specs.Math.{larger, clamped}
@@ -11,46 +17,24 @@ use Rattle.length.specs.Length.{resolvedOrZero}
 use Rattle.length.specs.Available.{availableLess, definite}
 use Rattle.length.specs.declared.AvailableSpace.{AvailableSpace}
 use Rattle.length.specs.declared.AvailableSpace.the-variants.{Definite, MinContent, MaxContent}
-use Rattle.style.specs.declared.Kind.{Kind}
-use Rattle.style.specs.declared.Kind.the-variants.{Block, Leaf, Hidden}
-use Rattle.style.specs.declared.Position.{Position}
-use Rattle.style.specs.declared.Position.the-variants.{Static, Relative, Absolute}
+use Rattle.style.specs.Flow.{flowOf}
 use Rattle.style.specs.declared.Measure.{Measure}
 use Rattle.style.specs.declared.Style.{Style}
 use Rattle.steps.specs.Sizing.{stepA}
 use Rattle.steps.specs.declared.Sizing.{Sizing}
 use Rattle.steps.specs.declared.ProbeInput.{ProbeInput}
-use Rattle.steps.specs.declared.Flow.{Flow}
-use Rattle.steps.specs.declared.Flow.the-variants.{Gone, Out, In}
+use Rattle.style.specs.declared.Flow.{Flow}
+use Rattle.style.specs.declared.Flow.the-variants.{Gone, Out, In}
 use Rattle.steps.specs.declared.Want.{Want}
 use Rattle.steps.specs.declared.Want.the-variants.{Nothing, Outer, Probe}
 
--- hidden wins over out of flow; plain and relative are in flow
-unfoldable pub positioned : Position → Flow
-positioned Static = In
-positioned Relative = In
-positioned Absolute = Out
-
-unfoldable pub flowBy : Kind → Position → Flow
-flowBy Block p = positioned p
-flowBy Leaf p = positioned p
-flowBy Hidden p = Gone
-
-unfoldable pub flowOf : Style → Flow
-flowOf s = flowBy (s .kind) (s .position)
-
-unfoldable pub isLeaf : Kind → Bool
-isLeaf Block = false
-isLeaf Leaf = true
-isLeaf Hidden = false
-
 -- F: side margins against the definite width, else no basis
 unfoldable pub sideMargins : Style → OptionF32 → Float
-sideMargins s basis = add binary32 (resolvedOrZero (s .margin .left) basis) (resolvedOrZero (s .margin .right) basis)
+sideMargins s basis = resolvedOrZero (s .margin .left) basis ⊕ resolvedOrZero (s .margin .right) basis
 
 -- F: larger(width, its padding+border) + margins
 unfoldable pub outerOf : Sizing → Float → Float → Float
-outerOf z margins width = add binary32 (larger width (across (z .both))) margins
+outerOf z margins width = larger width (across (z .both)) ⊕ margins
 
 -- F, of a child asked at an available width, once its width is found
 unfoldable pub outerWidth : Style → AvailableSpace → Float → Float
@@ -70,12 +54,12 @@ wantIn Out s a = Nothing
 wantIn In s a = wantSized (stepA s None) (sideMargins s (definite a)) a
 
 -- F: hidden and out-of-flow children give nothing
-unfoldable pub stepF : Style → AvailableSpace → Want
-stepF s a = wantIn (flowOf s) s a
+unfoldable pub wantOf : Style → AvailableSpace → Want
+wantOf s a = wantIn (flowOf s) s a
 
 -- F: then add insets, clamp, larger with padding+border
 unfoldable pub contentWidth : Sizing → Rect → Float → Float
-contentWidth z inset most = larger (clamped (add binary32 most (across inset)) (z .min .width) (z .max .width)) (across (z .both))
+contentWidth z inset most = larger (clamped (most ⊕ across inset) (z .min .width) (z .max .width)) (across (z .both))
 
 -- a leaf's table: min, max, or clamp of the definite width
 unfoldable pub leafWidth : Measure → AvailableSpace → Float

@@ -4,18 +4,18 @@ use geometry::Rect;
 use geometry::Size;
 use length::AvailableSpace;
 use margin::CollapsibleMarginSet;
-use margin::NodeId;
-use margin::Order;
+use tree::NodeId;
+use tree::Order;
 use util::OptionF32;
 use util::OptionSize;
 
-// A final question. `start` and `end` are the collapsible flags; `nested` is false at the root alone.
+// A final question. Two flags say which margins may collapse; `nested` is false at the root alone.
 pub struct LayoutInput {
     pub known: OptionSize,
     pub parent: OptionF32,
     pub available: AvailableSpace,
-    pub start: bool,
-    pub end: bool,
+    pub collapseStart: bool,
+    pub collapseEnd: bool,
     pub nested: bool,
 }
 
@@ -43,13 +43,6 @@ pub struct Sizing {
     pub max: OptionSize,
 }
 
-// How a child takes part: not at all, as a candidate, in the stack.
-pub enum Flow {
-    Gone,
-    Out,
-    In,
-}
-
 // What step F wants of a child: nothing, its outer width, or a probe.
 pub enum Want {
     Nothing,
@@ -63,11 +56,11 @@ pub struct Frame {
     pub height: OptionF32,
     pub inset: Rect,
     pub floor: f32,
-    pub min: OptionF32,
-    pub max: OptionF32,
+    pub minHeight: OptionF32,
+    pub maxHeight: OptionF32,
     pub basis: OptionF32,
-    pub start: bool,
-    pub end: bool,
+    pub ownStart: bool,
+    pub ownEnd: bool,
     pub hollow: bool,
     pub rtl: bool,
 }
@@ -87,7 +80,7 @@ pub struct Cursor {
     pub strut: CollapsibleMarginSet,
     pub top: CollapsibleMarginSet,
     pub first: bool,
-    pub through: bool,
+    pub allThrough: bool,
     pub shown: Order,
     pub count: u32,
 }

@@ -1,3 +1,4 @@
 pub mod Codes
+pub mod Flow
 pub mod Style
 pub mod Units

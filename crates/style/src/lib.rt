@@ -2,6 +2,7 @@
 ghost use mathlib.Core.Path.{_≡_};
 ghost use Prim.Native.Nat.{_+_, _<_, _≤_};
 ghost use Rattle.style.specs.Codes.{codeAt, flagAt, clearFrom, kindOf, positionOf, overflowOf, alignOf, overflowXY, unitOf, lengthOf, ratioOf};
+ghost use Rattle.style.specs.Flow.{positioned, flowBy, flowAt, flowOf, isLeaf};
 ghost use Rattle.style.specs.Style.{wordAt, numberAt, lengthAt, sizeAt, rectAt, measureAt, styleAt};
 use length::Length;
 use length::LengthRect;
@@ -18,6 +19,13 @@ pub enum Position {
     Static,
     Relative,
     Absolute,
+}
+
+// How a node takes part: not at all, as a candidate, in the stack.
+pub enum Flow {
+    Gone,
+    Out,
+    In,
 }
 
 pub enum Overflow {
@@ -287,5 +295,50 @@ pub fn style_at(words: &[u32], i: usize, numbers: &[f32], j: usize) -> Style
         ratio: ratio_at(numbers, j),
         scrollbar: number(numbers, j, 23),
         measure: measure_at(numbers, j),
+    }
+}
+
+fn flow_of_position(p: Position) -> Flow
+    ensures { λ r. ⌜ r ≡ positioned p ⌝ }
+{
+    match p {
+        Position::Static => Flow::In,
+        Position::Relative => Flow::In,
+        Position::Absolute => Flow::Out,
+    }
+}
+
+fn flow_by(k: Kind, p: Position) -> Flow
+    ensures { λ r. ⌜ r ≡ flowBy k p ⌝ }
+{
+    match k {
+        Kind::Block => flow_of_position(p),
+        Kind::Leaf => flow_of_position(p),
+        Kind::Hidden => Flow::Gone,
+    }
+}
+
+// How a node takes part, by its style word alone.
+pub fn flow_at(w: u32) -> Flow
+    ensures { λ r. ⌜ r ≡ flowAt w ⌝ }
+{
+    flow_by(kind_of(w), position_of(w))
+}
+
+pub fn flow_of(s: Style) -> Flow
+    ensures { λ r. ⌜ r ≡ flowOf s ⌝ }
+{
+    let k = s.kind;
+    let p = s.position;
+    flow_by(k, p)
+}
+
+pub fn is_leaf(k: Kind) -> bool
+    ensures { λ r. ⌜ r ≡ isLeaf k ⌝ }
+{
+    match k {
+        Kind::Block => false,
+        Kind::Leaf => true,
+        Kind::Hidden => false,
     }
 }

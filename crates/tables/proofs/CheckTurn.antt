@@ -5,7 +5,7 @@ use mathlib.Core.List.{List}
 use Prim.Native.Nat.{ℕ, suc, _+_, _*_, _-_, _<_, _≤_}
 use native.Mathlib.Omega.{arith}
 use lib.ListN.{take, drop}
-use Rattle.margin.specs.declared.NodeId.{NodeId}
+use Rattle.tree.specs.declared.NodeId.{NodeId}
 use Rattle.style.specs.Style.{wordAt}
 use Rattle.steps.specs.Scan.{scan, atNode}
 use Rattle.steps.specs.Page.{nodesIn}

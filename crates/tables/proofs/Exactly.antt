@@ -9,7 +9,7 @@ use lib.Dec.{ltb}
 use lib.Ieee.{Float}
 use borrow.Author.Tests.{lt-ltb, le-ltb, ltb-true, ltb-false}
 use Rattle.style.specs.Codes.{flagAt}
-use Rattle.margin.specs.declared.NodeId.{NodeId}
+use Rattle.tree.specs.declared.NodeId.{NodeId}
 use Rattle.steps.specs.Scan.{lowest}
 use Rattle.steps.specs.Page.{nodesIn, pageOf}
 use Rattle.steps.specs.Candidates.{needed}

@@ -19,7 +19,7 @@ use Rattle.tree.proofs.Lists.{from-zero, from-suc, from-add, length-from}
 use Rattle.tree.proofs.Parse.{entries-F, parse-more}
 use Rattle.style.specs.Codes.{codeAt, kindOf}
 use Rattle.style.specs.Style.{wordAt, styleAt}
-use Rattle.steps.specs.Width.{isLeaf}
+use Rattle.style.specs.Flow.{isLeaf}
 use Rattle.steps.specs.Scan.{lowest}
 use Rattle.steps.specs.Page.{Site, Cell, nodesIn, siteAt, cellAt, pageOf, cellsOf}
 use Rattle.steps.specs.Noes.{endAt, badTree}

@@ -13,12 +13,12 @@ use Rattle.tree.proofs.Lists.{from-suc, from-add, length-from, tails, cons-firs
 use Rattle.tree.proofs.Parse.{entries-F}
 use Rattle.style.specs.Style.{wordAt, styleAt}
 use Rattle.steps.specs.Page.{Site, nodesIn, siteAt, pageOf}
-use Rattle.steps.specs.Width.{flowOf}
+use Rattle.style.specs.Flow.{flowOf, flowAt}
 use Rattle.steps.specs.Candidates.{neededT, neededF, needed}
-use Rattle.steps.specs.declared.Flow.{Flow}
-use Rattle.steps.specs.declared.Flow.the-variants.{Gone, Out, In}
+use Rattle.style.specs.declared.Flow.{Flow}
+use Rattle.style.specs.declared.Flow.the-variants.{Gone, Out, In}
 use Rattle.tables.specs.TreeCheck.{GoodTable}
-use Rattle.tables.specs.Walk.{flowAt, countedBy, passedBy}
+use Rattle.tables.specs.Walk.{countedBy, passedBy}
 use Rattle.tables.proofs.GoodPage.{good-page}
 
 neededF-none : neededF none ≡ 0

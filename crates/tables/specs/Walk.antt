@@ -3,18 +3,12 @@ use mathlib.Core.Path.{_≡_}
 use mathlib.Core.List.{List, []}
 use Prim.Native.Nat.{ℕ}
 use lib.Ieee.{Float}
-use Rattle.style.specs.Codes.{codeAt, kindOf, positionOf}
-use Rattle.steps.specs.Width.{flowBy}
 use Rattle.steps.specs.Page.{pageOf}
 use Rattle.steps.specs.Candidates.{needed}
 use Rattle.steps.specs.Noes.{no5}
 use Rattle.steps.specs.declared.Tested.{Tested}
-use Rattle.steps.specs.declared.Flow.{Flow}
-use Rattle.steps.specs.declared.Flow.the-variants.{Gone, Out, In}
-
--- how a node takes part, by its style word
-unfoldable pub flowAt : ℕ → Flow
-flowAt style = flowBy (kindOf (codeAt style 0)) (positionOf (codeAt style 2))
+use Rattle.style.specs.declared.Flow.{Flow}
+use Rattle.style.specs.declared.Flow.the-variants.{Gone, Out, In}
 
 -- how many candidates a node is itself
 unfoldable pub countedBy : Flow → ℕ

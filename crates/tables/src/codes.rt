@@ -7,12 +7,12 @@ ghost use Rattle.style.specs.Codes.{unitOf};
 ghost use Rattle.steps.specs.Scan.{lowest, some};
 ghost use Rattle.steps.specs.Page.{nodesIn};
 ghost use Rattle.steps.specs.Noes.{noAuto, noFraction, badUnit, badCodes};
-use margin::NodeId;
 use steps::Found;
 use style::clear_from;
 use style::code;
 use style::unit;
 use style::word;
+use tree::NodeId;
 
 // From lo on and below hi.
 pub(crate) fn spans(lo: u32, hi: u32, f: u32) -> bool

@@ -4,10 +4,10 @@ ghost use Prim.Native.Nat.{min};
 ghost use lib.ListN.{length};
 ghost use Rattle.steps.specs.Scan.{lowest};
 ghost use Rattle.steps.specs.Noes.{badEdit, no6};
-use margin::NodeId;
 use steps::Answer;
 use steps::Found;
 use steps::Tested;
+use tree::NodeId;
 
 // 6: how many of the edits are looked at.
 fn looked_at(n: usize) -> usize

@@ -20,13 +20,13 @@ use crate::numbers::bad_question;
 use crate::numbers::first_bad_numbers;
 use crate::shape::below;
 use crate::shape::long_leaf;
-use margin::NodeId;
 use steps::Answer;
 use steps::Found;
 use steps::LayoutInput;
 use steps::Tested;
 use style::flag;
 use style::word;
+use tree::NodeId;
 
 // 1: no node, over 1,024, or not 4 words and 27 numbers for each.
 fn bad_tables(words: &[u32], numbers: &[f32]) -> bool

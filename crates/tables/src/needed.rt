@@ -2,41 +2,10 @@
 ghost use mathlib.Core.Path.{_≡_};
 ghost use Rattle.tables.specs.TreeCheck.{GoodTable};
 ghost use Rattle.steps.specs.Noes.{recordsIn};
-ghost use Rattle.steps.specs.Width.{positioned, flowBy};
-ghost use Rattle.tables.specs.Walk.{flowAt, countedBy, passedBy, NeededIn};
-use steps::Flow;
-use style::Kind;
-use style::Position;
-use style::kind_of;
-use style::position_of;
+ghost use Rattle.tables.specs.Walk.{countedBy, passedBy, NeededIn};
+use style::Flow;
+use style::flow_at;
 use style::word;
-
-// 5: hidden wins over out of flow.
-fn placed(p: Position) -> Flow
-    ensures { λ r. ⌜ r ≡ positioned p ⌝ }
-{
-    match p {
-        Position::Static => Flow::In,
-        Position::Relative => Flow::In,
-        Position::Absolute => Flow::Out,
-    }
-}
-
-fn flow_by(k: Kind, p: Position) -> Flow
-    ensures { λ r. ⌜ r ≡ flowBy k p ⌝ }
-{
-    match k {
-        Kind::Block => placed(p),
-        Kind::Leaf => placed(p),
-        Kind::Hidden => Flow::Gone,
-    }
-}
-
-fn flow_at(style: u32) -> Flow
-    ensures { λ r. ⌜ r ≡ flowAt style ⌝ }
-{
-    flow_by(kind_of(style), position_of(style))
-}
 
 // 5: a shown out-of-flow child is one candidate.
 fn counted(flow: Flow) -> usize

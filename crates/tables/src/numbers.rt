@@ -8,12 +8,12 @@ ghost use Rattle.steps.specs.Page.{nodesIn};
 ghost use Rattle.steps.specs.Noes.{signed, mostOf, badField, badPixels, badRatio, badNumbers, badOption, badQuestion};
 use crate::codes::spans;
 use limits::in_range;
-use margin::NodeId;
 use steps::Found;
 use steps::LayoutInput;
 use style::number;
 use style::unit;
 use style::word;
+use tree::NodeId;
 use util::OptionF32;
 use util::pick;
 

@@ -6,10 +6,10 @@ ghost use lib.Dec.{eqb, ltb};
 ghost use Rattle.style.specs.Codes.{codeAt};
 ghost use Rattle.steps.specs.Page.{nodesIn};
 ghost use Rattle.tables.specs.TreeCheck.{nodeFault, CheckedPart};
-use margin::NodeId;
 use steps::Found;
 use style::code;
 use style::word;
+use tree::NodeId;
 
 // 2: a leaf above size 1.
 pub(crate) fn long_leaf(style: u32, size: usize) -> bool

@@ -47,8 +47,8 @@ fn question() -> LayoutInput {
         known,
         parent: OptionF32::Some(320.0),
         available: AvailableSpace::Definite(320.0),
-        start: false,
-        end: false,
+        collapseStart: false,
+        collapseEnd: false,
         nested: false,
     }
 }

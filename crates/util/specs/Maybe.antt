@@ -1,6 +1,7 @@
 -- Numbers that may be missing.
 use mathlib.Core.Bool.{Bool, true, false}
-use lib.Ieee.{Float, add, sub, mul, div, binary32}
+use lib.Ieee.{Float}
+use Rattle.geometry.specs.Floats.{_⊕_, _⊖_, _⊗_, _⊘_}
 use Rattle.geometry.specs.Geometry.{zeroF}
 use Rattle.geometry.specs.declared.Size.{Size}
 use Rattle.util.specs.Math.{larger, clamped}
@@ -27,11 +28,11 @@ isSome (Some x) = true
 
 unfoldable pub addOpt : OptionF32 → Float → OptionF32
 addOpt None y = None
-addOpt (Some x) y = Some (add binary32 x y)
+addOpt (Some x) y = Some (x ⊕ y)
 
 unfoldable pub subOpt : OptionF32 → Float → OptionF32
 subOpt None y = None
-subOpt (Some x) y = Some (sub binary32 x y)
+subOpt (Some x) y = Some (x ⊖ y)
 
 unfoldable pub clampOpt : OptionF32 → OptionF32 → OptionF32 → OptionF32
 clampOpt None lo hi = None
@@ -42,19 +43,19 @@ floorOpt None y = None
 floorOpt (Some x) y = Some (larger x y)
 
 -- w = h * ratio
-unfoldable pub widthFrom : OptionF32 → Float → OptionF32
-widthFrom None q = None
-widthFrom (Some h) q = Some (mul binary32 h q)
+unfoldable pub ratioWidth : OptionF32 → Float → OptionF32
+ratioWidth None q = None
+ratioWidth (Some h) q = Some (h ⊗ q)
 
 -- h = w / ratio
-unfoldable pub heightFrom : OptionF32 → Float → OptionF32
-heightFrom None q = None
-heightFrom (Some w) q = Some (div binary32 w q)
+unfoldable pub ratioHeight : OptionF32 → Float → OptionF32
+ratioHeight None q = None
+ratioHeight (Some w) q = Some (w ⊘ q)
 
 -- a ratio fills one missing axis
 unfoldable pub ratioFills : OptionSize → OptionF32 → OptionSize
 ratioFills s None = s
-ratioFills s (Some q) = record { width = orElse (s .width) (widthFrom (s .height) q); height = orElse (s .height) (heightFrom (s .width) q) }
+ratioFills s (Some q) = record { width = orElse (s .width) (ratioWidth (s .height) q); height = orElse (s .height) (ratioHeight (s .width) q) }
 
 -- both axes made larger
 unfoldable pub addSize : OptionSize → Size → OptionSize

@@ -2,7 +2,7 @@
 ghost use mathlib.Core.Path.{_≡_};
 ghost use mathlib.Core.Bool.{cond};
 ghost use Rattle.util.specs.Math.{larger, smaller, capped, floored, clamped};
-ghost use Rattle.util.specs.Maybe.{orZero, unwrapOr, orElse, isSome, addOpt, subOpt, clampOpt, floorOpt, widthFrom, heightFrom, ratioFills, addSize};
+ghost use Rattle.util.specs.Maybe.{orZero, unwrapOr, orElse, isSome, addOpt, subOpt, clampOpt, floorOpt, ratioWidth, ratioHeight, ratioFills, addSize};
 use geometry::Size;
 
 pub enum OptionF32 {
@@ -134,7 +134,7 @@ impl OptionF32 {
 
 // The width that a height gives, and the height that a width gives.
 fn width_from(height: OptionF32, ratio: f32) -> OptionF32
-    ensures { λ r. ⌜ r ≡ widthFrom height ratio ⌝ }
+    ensures { λ r. ⌜ r ≡ ratioWidth height ratio ⌝ }
 {
     match height {
         OptionF32::None => OptionF32::None,
@@ -143,7 +143,7 @@ fn width_from(height: OptionF32, ratio: f32) -> OptionF32
 }
 
 fn height_from(width: OptionF32, ratio: f32) -> OptionF32
-    ensures { λ r. ⌜ r ≡ heightFrom width ratio ⌝ }
+    ensures { λ r. ⌜ r ≡ ratioHeight width ratio ⌝ }
 {
     match width {
         OptionF32::None => OptionF32::None,

@@ -8,7 +8,7 @@ use lib.Ieee.{Float}
 use Rattle.tree.specs.Tree.{Tree, node, countT, countF, depthT}
 use Rattle.tree.proofs.Laws.{countT-node, depthT-node}
 use Rattle.steps.specs.Page.{Cell}
-use Rattle.rows.specs.Store.{Room, Whole}
+use Rattle.rows.specs.Store.{OneRow, Whole}
 use Rattle.walks.specs.Tables.{TabledT, IsTree, IsForest}
 use Rattle.walks.proofs.Parts.{tree-facts}
 
@@ -16,7 +16,7 @@ pub record Facts (ws : List ℕ) (xs rs : List Float) (ms es : List ℕ) (b dept
   pub words-some : 4 ≤ length ws
   pub rows-long : length rs ≡ 4 * length ws
   pub marks-long : 2 * length ms ≡ length ws
-  pub room : Room rs ms
+  pub room : OneRow rs ms
   pub whole : Whole rs ms
   pub deep : 1 ≤ depth
   pub fit : 4 * b + length ws ≤ 4096

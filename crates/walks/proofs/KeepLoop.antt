@@ -8,18 +8,17 @@ use lib.ListN.{length, getD, set, take, drop, replicate, length-append, length-r
 use lib.Ieee.{Float, nan}
 use borrow.Rule.Slice.PartMut.{putMid}
 use Rattle.geometry.specs.Geometry.{zeroF}
-use Rattle.style.specs.Codes.{codeAt, kindOf, positionOf}
 use Rattle.style.specs.Style.{wordAt, styleAt}
 use Rattle.tree.specs.Tree.{Tree, Forest, node, none, more, countT, countF, flatT, flatF, mapF, joinF}
 use Rattle.tree.specs.Table.{from}
 use Rattle.tree.proofs.Laws.{countT-node, countF-more, flatT-node, flatF-none, flatF-more, mapT-node, mapF-none, mapF-more, flat-join, count-join, count-mapF, length-flatT}
 use Rattle.tree.proofs.Lists.{getD-in, set-in, from-add}
-use Rattle.steps.specs.Width.{flowBy, flowOf}
+use Rattle.style.specs.Flow.{flowAt, flowOf}
 use Rattle.steps.specs.Row.{Row, rowNumbers, rowWords, hiddenRow, asideRow, noted, probeOf}
 use Rattle.steps.specs.Page.{Cell, siteAt, staying}
 use Rattle.steps.specs.Kept.{laidBits, belowRow, zerosF, fixT, fixF}
-use Rattle.steps.specs.declared.Flow.{Flow}
-use Rattle.steps.specs.declared.Flow.the-variants.{Gone, Out, In}
+use Rattle.style.specs.declared.Flow.{Flow}
+use Rattle.style.specs.declared.Flow.the-variants.{Gone, Out, In}
 use Rattle.steps.proofs.Clauses.{fixF-none, fixF-more, fixT-gone, fixT-out, fixT-in}
 use Rattle.walks.specs.Tables.{siteEntry, oldNumbers, oldWords, newNumbers, newWords, TabledF}
 use Rattle.walks.proofs.Parts.{Left, child-of, left-begin, left-none, left-some, parted, kids-sites}
@@ -40,10 +39,10 @@ pub begin : (ws : List ℕ) (xs rs : List Float) (ms es : List ℕ) (b : ℕ) (t
 begin ws xs rs ms es b ts h = record { left = ts; q = []; p = []; here = left-begin ws xs rs ms es b ts h; rows-done = refl; marks-done = refl }
 
 abbrev pub flowIn : List ℕ → ℕ → Flow
-flowIn ws i = flowBy (kindOf (codeAt (wordAt ws i 1) 0)) (positionOf (codeAt (wordAt ws i 1) 2))
+flowIn ws i = flowAt (wordAt ws i 1)
 
 flow-at : (ws : List ℕ) (i : ℕ) (xs : List Float) (m : ℕ) → flowIn ws i ≡ flowOf (styleAt ws i xs m)
-unfolding flowOf styleAt
+unfolding flowAt flowOf styleAt
 flow-at ws i xs m = refl
 
 -- what a turn at i finds, the run of the node ending at e
@@ -104,10 +103,10 @@ module _ (ws : List ℕ) (xs rs : List Float) (ms es : List ℕ) (b : ℕ) (ts :
       let em : ms ≡ p ++ (rowWords (l .old) ++ (flatF oldWords ks ++ flatF oldWords us)) =
       h .marks-split ∙ ap (λ (z : List ℕ). p ++ z) (flatF-more oldWords t us ∙ ap (λ (z : List ℕ). z ++ flatF oldWords us) (flatT-node oldWords l ks)) in
       let r = l .old in
-      let tail0 = r .w ∷ r .h ∷ r .top .positive ∷ r .top .negative ∷ r .bottom .positive ∷ r .bottom .negative ∷ r .knownW ∷ r .knownH ∷ r .parent ∷ r .probeW ∷ r .probeH ∷ r .answer ∷ r .spare ∷ r .spare2 ∷ (flatF oldNumbers ks ++ flatF oldNumbers us) in
-      let g0 : getD rs (16 * i) nan ≡ r .x = ap (λ (z : List Float). getD z (16 * i) nan) er ∙ getD-in q [] (r .x) (r .y ∷ tail0) nan (16 * i) (omega arith) in
-      let g1 : getD rs (16 * i + 1) nan ≡ r .y = ap (λ (z : List Float). getD z (16 * i + 1) nan) er ∙ getD-in q (r .x ∷ []) (r .y) tail0 nan (16 * i + 1) (ap (λ (k : ℕ). k + 1) ql) in
-      let g2 : getD rs (16 * i + 2) nan ≡ r .w = ap (λ (z : List Float). getD z (16 * i + 2) nan) er ∙ getD-in q (r .x ∷ r .y ∷ []) (r .w) (drop 1 tail0) nan (16 * i + 2) (ap (λ (k : ℕ). k + 2) ql) in
+      let tail0 = r .answer .size .width ∷ r .answer .size .height ∷ r .answer .top .positive ∷ r .answer .top .negative ∷ r .answer .bottom .positive ∷ r .answer .bottom .negative ∷ r .asked .width ∷ r .asked .height ∷ r .asked .parent ∷ r .probe .width ∷ r .probe .height ∷ r .probe .answer ∷ r .spare .first ∷ r .spare .second ∷ (flatF oldNumbers ks ++ flatF oldNumbers us) in
+      let g0 : getD rs (16 * i) nan ≡ r .place .x = ap (λ (z : List Float). getD z (16 * i) nan) er ∙ getD-in q [] (r .place .x) (r .place .y ∷ tail0) nan (16 * i) (omega arith) in
+      let g1 : getD rs (16 * i + 1) nan ≡ r .place .y = ap (λ (z : List Float). getD z (16 * i + 1) nan) er ∙ getD-in q (r .place .x ∷ []) (r .place .y) tail0 nan (16 * i + 1) (ap (λ (k : ℕ). k + 1) ql) in
+      let g2 : getD rs (16 * i + 2) nan ≡ r .answer .size .width = ap (λ (z : List Float). getD z (16 * i + 2) nan) er ∙ getD-in q (r .place .x ∷ r .place .y ∷ []) (r .answer .size .width) (drop 1 tail0) nan (16 * i + 2) (ap (λ (k : ℕ). k + 2) ql) in
       let m0 : getD ms (2 * i) 0 ≡ r .order = ap (λ (z : List ℕ). getD z (2 * i) 0) em ∙ getD-in p [] (r .order) (r .bits ∷ (flatF oldWords ks ++ flatF oldWords us)) 0 (2 * i) (omega arith) in
       let m1 : getD ms (2 * i + 1) 0 ≡ r .bits = ap (λ (z : List ℕ). getD z (2 * i + 1) 0) em ∙ getD-in p (r .order ∷ []) (r .bits) (flatF oldWords ks ++ flatF oldWords us) 0 (2 * i + 1) (ap (λ (k : ℕ). k + 1) pl) in
       let ee = c .size-is in
@@ -136,7 +135,7 @@ module _ (ws : List ℕ) (xs rs : List Float) (ms es : List ℕ) (b : ℕ) (ts :
               marks-done = dm ∙ rw (more-done, flatF-more, ← nm2) (sym (append-assoc p nm _));
             };
         out = λ nr nm hf hr hm.
-            let a = asideRow (r .x) (r .y) (r .w) (r .order) in
+            let a = asideRow (r .place .x) (r .place .y) (r .answer .size .width) (r .order) in
             let fx : fixT (node (staying l) (mapF staying ks)) ≡ node a (zerosF (mapF staying ks)) = fixT-out (staying l) (mapF staying ks) (sym fl ∙ hf) ∙ rw (stay-old l) refl in
             let nr2 : nr ≡ flatT newNumbers (fixT (node (staying l) (mapF staying ks))) = hr ∙ rw (m0, g0, g1, g2, fx) (sym (flat-zero a ks _ n16)) in
             let nm2 : nm ≡ flatT newWords (fixT (node (staying l) (mapF staying ks))) = hm ∙ rw (m0, g0, g1, g2, fx) (sym (flat-zero2 a ks _ n2)) in

@@ -2,13 +2,12 @@
 ghost use mathlib.Core.Path.{_≡_};
 ghost use mathlib.Core.Bool.{_||_};
 ghost use Prim.Native.Nat.{_/_, _%_};
-ghost use Rattle.style.specs.Codes.{flagAt, kindOf, positionOf, codeAt};
-ghost use Rattle.steps.specs.Width.{flowBy};
+ghost use Rattle.style.specs.Codes.{flagAt};
 ghost use Rattle.steps.specs.Kept.{laidBits};
 ghost use Rattle.walks.specs.Tables.{IsRows, LoweredRows, IsBelow, KeptBelow, loweredY};
 use geometry::Line;
-use margin::Order;
-use steps::Flow;
+use style::Flow;
+use tree::Order;
 
 fn moves(bits: u32) -> bool
     ensures { λ r. ⌜ r ≡ (flagAt bits 0 || flagAt bits 2) ⌝ }
@@ -39,12 +38,6 @@ pub fn lower(words: &[u32], rows: &mut [f32], marks: &[u32], shift: f32)
     }
 }
 
-fn flow_in(w: u32) -> Flow
-    ensures { λ r. ⌜ r ≡ flowBy (kindOf (codeAt w 0)) (positionOf (codeAt w 2)) ⌝ }
-{
-    widths::flow_by(style::kind_of(w), style::position_of(w))
-}
-
 fn laid_bits(b: u32) -> u32
     ensures { λ r. ⌜ r ≡ laidBits b (b / 16 % 16) ⌝ }
 {
@@ -63,7 +56,7 @@ pub fn keep_below(words: &[u32], rows: &mut [f32], marks: &mut [u32])
         let e16 = 16 * e;
         let i2 = 2 * i;
         let e2 = 2 * e;
-        let flow = flow_in(style::word(words, i, 1));
+        let flow = style::flow_at(style::word(words, i, 1));
         match flow {
             Flow::Gone => {
                 let order = marks[i2];

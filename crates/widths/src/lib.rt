@@ -1,58 +1,19 @@
 // Step F: what an unknown width wants of the children (the crate's determine_content_based_container_width), and a leaf's width.
 ghost use mathlib.Core.Path.{_≡_};
 ghost use Rattle.steps.specs.Sizing.{insets};
-ghost use Rattle.steps.specs.Width.{positioned, flowBy, flowOf, isLeaf, sideMargins, outerOf, outerWidth, wantBy, wantSized, wantIn, stepF, contentWidth, leafWidth};
-ghost use Rattle.steps.specs.Probe.{probeKnown, spaceIn, widthFrom};
+ghost use Rattle.style.specs.Flow.{flowOf};
+ghost use Rattle.steps.specs.Width.{sideMargins, outerOf, outerWidth, wantBy, wantSized, wantIn, wantOf, contentWidth, leafWidth};
+ghost use Rattle.steps.specs.Probe.{probeKnown, spaceIn, foundWidth};
 use geometry::Rect;
 use length::AvailableSpace;
-use steps::Flow;
 use steps::ProbeInput;
 use steps::Sizing;
 use steps::Want;
-use style::Kind;
+use style::Flow;
 use style::Measure;
-use style::Position;
 use style::Style;
 use util::OptionF32;
 use util::OptionSize;
-
-fn flow_of_position(p: Position) -> Flow
-    ensures { λ r. ⌜ r ≡ positioned p ⌝ }
-{
-    match p {
-        Position::Static => Flow::In,
-        Position::Relative => Flow::In,
-        Position::Absolute => Flow::Out,
-    }
-}
-
-pub fn flow_by(k: Kind, p: Position) -> Flow
-    ensures { λ r. ⌜ r ≡ flowBy k p ⌝ }
-{
-    match k {
-        Kind::Block => flow_of_position(p),
-        Kind::Leaf => flow_of_position(p),
-        Kind::Hidden => Flow::Gone,
-    }
-}
-
-pub fn flow_of(s: Style) -> Flow
-    ensures { λ r. ⌜ r ≡ flowOf s ⌝ }
-{
-    let k = s.kind;
-    let p = s.position;
-    flow_by(k, p)
-}
-
-pub fn is_leaf(k: Kind) -> bool
-    ensures { λ r. ⌜ r ≡ isLeaf k ⌝ }
-{
-    match k {
-        Kind::Block => false,
-        Kind::Leaf => true,
-        Kind::Hidden => false,
-    }
-}
 
 fn side_margins(s: Style, basis: OptionF32) -> f32
     ensures { λ r. ⌜ r ≡ sideMargins s basis ⌝ }
@@ -133,9 +94,9 @@ fn want_in(f: Flow, s: Style, a: AvailableSpace) -> Want
 
 // Step F: what is wanted of a child.
 pub fn want_of(s: Style, a: AvailableSpace) -> Want
-    ensures { λ r. ⌜ r ≡ stepF s a ⌝ }
+    ensures { λ r. ⌜ r ≡ wantOf s a ⌝ }
 {
-    want_in(flow_of(s), s, a)
+    want_in(style::flow_of(s), s, a)
 }
 
 fn content_width(z: Sizing, inset: Rect, most: f32) -> f32
@@ -163,7 +124,7 @@ pub fn available_inside(s: Style, parent: OptionF32, a: AvailableSpace) -> Avail
 
 // Step F: the width that the widest child gives.
 pub fn width_from(s: Style, parent: OptionF32, most: f32) -> f32
-    ensures { λ r. ⌜ r ≡ widthFrom s parent most ⌝ }
+    ensures { λ r. ⌜ r ≡ foundWidth s parent most ⌝ }
 {
     let z = sizing::sizing_of(s, parent);
     let both = z.both;

@@ -1,6 +1,6 @@
 use mathlib.Core.Path.{_≡_, refl, sym, ap, _∙_}
 use mathlib.Core.List.{List}
-use Prim.Native.Nat.{_+_, _*_, _-_, _≤_}
+use Prim.Native.Nat.{_+_, _*_, _-_, _≤_, ℕ, _<_}
 use native.Mathlib.Omega.{arith}
 use borrow.Author.Needs.{needs}
 use lib.ListN.{length}
@@ -11,7 +11,6 @@ use Rattle.walks.specs.Tables.{RowsOf}
 use Rattle.candidates.specs.Gathered.{RoomFor}
 use Rattle.candidates.proofs.GatherLoop.{Rest, Turn, begin, turn, end}
 use Rattle.candidates.proofs.OneTree.{Given-facts, given, one-room, moved-room, out-gathered, none-gathered, kids-given, laid-gathered}
-use Prim.Native.Nat.{ℕ, _<_}
 use borrow.Fn.Kinds.{In}
 use borrow.Fn.PlainCycle.{Measures, is, falls, and}
 use Rattle.candidates.proofs.gather.Reads as gather

@@ -1,4 +1,4 @@
-use Rattle.face.specs.Question.{questionOf}
+use Rattle.face.specs.Question.{plainQuestion}
 use borrow.Author.Needs.{needs}
 use Rattle.face.proofs.question.Statement.{statement}
 use Rattle.face.proofs.question.Tie as tie
@@ -28,7 +28,7 @@ flag-requires-4 : tie.Need-flag-requires-4
 flag-requires-4 c κs = search needs
 
 returns : tie.Need-returns
-unfolding questionOf
+unfolding plainQuestion
 returns c = rw (c .flag4 .ensures, c .before .flag3 .ensures, c .before .before .available-of .ensures, c .before .before .before .code .ensures, c .before .before .before .before .option2 .ensures, c .before .before .before .before .before .flag2 .ensures, c .before .before .before .before .before .before .option .ensures, c .before .before .before .before .before .before .before .flag .ensures)
 
 pub question-spec : {M : Type 1} → statement M

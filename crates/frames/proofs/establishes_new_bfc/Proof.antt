@@ -1,4 +1,4 @@
-use Rattle.steps.specs.Edges.{newContext}
+use Rattle.steps.specs.Context.{newContext}
 use borrow.Author.Needs.{needs}
 use Rattle.frames.proofs.establishes_new_bfc.Statement.{statement}
 use Rattle.frames.proofs.establishes_new_bfc.Tie as tie

@@ -1,5 +1,4 @@
-use Rattle.steps.specs.Edges.{frameBy}
-use Rattle.steps.specs.Edges.{stepH}
+use Rattle.steps.specs.Edges.{frameBy, basisAgain}
 use borrow.Author.Needs.{needs}
 use Rattle.frames.proofs.frame_by.Statement.{statement}
 use Rattle.frames.proofs.frame_by.Tie as tie
@@ -17,7 +16,7 @@ framed-by-requires : tie.Need-framed-by-requires
 framed-by-requires c κs = search needs
 
 returns : tie.Need-returns
-unfolding frameBy stepH
+unfolding frameBy basisAgain
 returns c = rw (c .framed-by .ensures, c .before .resolve-sides2 .ensures, c .before .before .resolve-sides .ensures, c .before .before .before .unwrap-or .ensures)
 
 pub frame-by-spec : {M : Type 1} → statement M

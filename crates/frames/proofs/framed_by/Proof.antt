@@ -1,4 +1,4 @@
-use Rattle.steps.specs.Edges.{framed}
+use Rattle.steps.specs.Edges.{stepI}
 use borrow.Author.Needs.{needs}
 use Rattle.frames.proofs.framed_by.Statement.{statement}
 use Rattle.frames.proofs.framed_by.Tie as tie
@@ -28,7 +28,7 @@ is-hollow-requires : tie.Need-is-hollow-requires
 is-hollow-requires c κs = search needs
 
 returns : tie.Need-returns
-unfolding framed
+unfolding stepI
 returns c = rw (c .is-hollow .ensures, c .before .own-end .ensures, c .before .before .edge-adjoins .ensures, c .before .before .before .content-basis .ensures, c .before .before .before .before .content-box-inset2 .ensures, c .before .before .before .before .before .vertical-axis-sum .ensures, c .before .before .before .before .before .before .content-box-inset .ensures, c .before .before .before .before .before .before .before .add .ensures)
 
 pub framed-by-spec : {M : Type 1} → statement M

@@ -1,4 +1,4 @@
-use Rattle.steps.specs.Edges.{isNormal}
+use Rattle.steps.specs.Context.{isNormal}
 use borrow.Author.Needs.{needs}
 use Rattle.frames.proofs.is_align_normal.Statement.{statement}
 use Rattle.frames.proofs.is_align_normal.Tie as tie

@@ -1,4 +1,4 @@
-use Rattle.steps.specs.Edges.{clips}
+use Rattle.steps.specs.Context.{clips}
 use borrow.Author.Needs.{needs}
 use Rattle.frames.proofs.is_clipping.Statement.{statement}
 use Rattle.frames.proofs.is_clipping.Tie as tie

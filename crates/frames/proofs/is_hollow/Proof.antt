@@ -1,4 +1,4 @@
-use Rattle.steps.specs.Edges.{hollowBox}
+use Rattle.steps.specs.Through.{hollowBox}
 use borrow.Author.Needs.{needs}
 use Rattle.frames.proofs.is_hollow.Statement.{statement}
 use Rattle.frames.proofs.is_hollow.Tie as tie

@@ -1,4 +1,4 @@
-use Rattle.steps.specs.Edges.{isIn}
+use Rattle.style.specs.Flow.{isIn}
 use borrow.Author.Needs.{needs}
 use Rattle.frames.proofs.is_in.Statement.{statement}
 use Rattle.frames.proofs.is_in.Tie as tie

@@ -1,4 +1,4 @@
-use Rattle.steps.specs.Edges.{openBox}
+use Rattle.steps.specs.Through.{openBox}
 use Rattle.frames.proofs.is_open_box.Statement.{statement}
 use Rattle.frames.proofs.is_open_box.Tie as tie
 

@@ -1,4 +1,4 @@
-use Rattle.steps.specs.Edges.{plainBlock}
+use Rattle.steps.specs.Context.{plainBlock}
 use borrow.Author.Needs.{needs}
 use Rattle.frames.proofs.is_plain_block.Statement.{statement}
 use Rattle.frames.proofs.is_plain_block.Tie as tie

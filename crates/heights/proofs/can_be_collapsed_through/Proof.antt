@@ -1,4 +1,4 @@
-use Rattle.steps.specs.Height.{stepN}
+use Rattle.steps.specs.Through.{stepN}
 use Rattle.heights.proofs.can_be_collapsed_through.Statement.{statement}
 use Rattle.heights.proofs.can_be_collapsed_through.Tie as tie
 

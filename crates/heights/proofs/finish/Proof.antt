@@ -1,4 +1,4 @@
-use Rattle.steps.specs.Height.{finished}
+use Rattle.steps.specs.Through.{finished}
 use borrow.Author.Needs.{needs}
 use Rattle.heights.proofs.finish.Statement.{statement}
 use Rattle.heights.proofs.finish.Tie as tie

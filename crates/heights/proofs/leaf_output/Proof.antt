@@ -1,4 +1,4 @@
-use Rattle.steps.specs.Height.{leafOutput}
+use Rattle.steps.specs.Through.{leafOutput}
 use borrow.Author.Needs.{needs}
 use Rattle.heights.proofs.leaf_output.Statement.{statement}
 use Rattle.heights.proofs.leaf_output.Tie as tie

@@ -1,4 +1,4 @@
-use Rattle.steps.specs.Height.{outputOf}
+use Rattle.steps.specs.Through.{outputOf}
 use borrow.Author.Needs.{needs}
 use Rattle.heights.proofs.output_of.Statement.{statement}
 use Rattle.heights.proofs.output_of.Tie as tie

@@ -1,4 +1,4 @@
-use Rattle.steps.specs.Height.{ownEnd}
+use Rattle.steps.specs.Height.{stillOwnEnd}
 use borrow.Author.Needs.{needs}
 use Rattle.heights.proofs.own_end.Statement.{statement}
 use Rattle.heights.proofs.own_end.Tie as tie
@@ -7,11 +7,11 @@ held-open-requires : tie.Need-held-open-requires
 held-open-requires c κs = search needs
 
 returns : tie.Need-returns
-unfolding ownEnd
+unfolding stillOwnEnd
 returns c = rw (c .held-open .ensures, c .before .if1 .taken)
 
 returns-2 : tie.Need-returns-2
-unfolding ownEnd
+unfolding stillOwnEnd
 returns-2 c = rw (c .if1 .left)
 
 pub own-end-spec : {M : Type 1} → statement M

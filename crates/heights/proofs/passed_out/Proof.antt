@@ -1,4 +1,4 @@
-use Rattle.steps.specs.Height.{passedOut}
+use Rattle.steps.specs.Through.{passedOut}
 use borrow.Author.Needs.{needs}
 use Rattle.heights.proofs.passed_out.Statement.{statement}
 use Rattle.heights.proofs.passed_out.Tie as tie

@@ -1,5 +1,5 @@
 use borrow.Author.Tests.{lt-ltb, le-ltb, eq-eqb, ne-eqb}
-use Rattle.lines.specs.Lines.{knownOf}
+use Rattle.lines.specs.Lines.{knownLineOf}
 use borrow.Author.Needs.{needs}
 use Rattle.lines.proofs.known_of.Statement.{statement}
 use Rattle.lines.proofs.known_of.Tie as tie
@@ -19,15 +19,15 @@ enum-known-h : tie.Need-enum-known-h
 enum-known-h c = search needs
 
 returns : tie.Need-returns
-unfolding knownOf
+unfolding knownLineOf
 returns c = rw (c .enum-told .given .1)
 
 returns-2 : tie.Need-returns-2
-unfolding knownOf
+unfolding knownLineOf
 returns-2 c = rw (c .enum-told2 .given .1, c .before .before .before .w .given .1)
 
 returns-3 : tie.Need-returns-3
-unfolding knownOf
+unfolding knownLineOf
 returns-3 c = rw (c .before .h .given .1, c .before .before .before .before .w .given .1)
 
 pub known-of-spec : {M : Type 1} → statement M

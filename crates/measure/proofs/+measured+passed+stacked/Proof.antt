@@ -1,5 +1,5 @@
 use mathlib.Core.Path.{sym, ap, _∙_}
-use Prim.Native.Nat.{_+_, _*_, _-_, _≤_}
+use Prim.Native.Nat.{_+_, _*_, _-_, _≤_, ℕ, _<_}
 use native.Mathlib.Omega.{arith}
 use borrow.Author.Needs.{needs}
 use lib.ListN.{length}
@@ -10,7 +10,6 @@ use Rattle.measure.specs.Contract.{SitesF}
 use Rattle.measure.proofs.Sites.{facts}
 use Rattle.measure.proofs.Loops.{StackRest, StackTurn, stack-begin, stack-turn, stack-end, past-counts}
 use Rattle.measure.proofs.OneNode.{leaf-measured, block-measured, gone-passed, out-passed, in-passed}
-use Prim.Native.Nat.{ℕ, _<_}
 use borrow.Fn.Kinds.{In}
 use borrow.Fn.PlainCycle.{Measures, is, falls, and}
 use Rattle.measure.proofs.measured.Reads as measured
@@ -33,8 +32,8 @@ use Rattle.stacking.proofs.start_of.Reads as start-of-reads
 use Rattle.stacking.proofs.stepped_past.Reads as stepped-past-reads
 use Rattle.style.proofs.style_at.Reads as style-at-reads
 use Rattle.style.proofs.word.Reads as word-reads
-use Rattle.widths.proofs.flow_of.Reads as flow-of-reads
-use Rattle.widths.proofs.is_leaf.Reads as is-leaf-reads
+use Rattle.style.proofs.flow_of.Reads as flow-of-reads
+use Rattle.style.proofs.is_leaf.Reads as is-leaf-reads
 use Rattle.measure.proofs.+measured+passed+stacked.{statement}
 use Rattle.measure.proofs.+measured+passed+stacked.Tie.{close}
 

@@ -1,5 +1,5 @@
 use mathlib.Core.Path.{refl, sym, ap, _∙_}
-use Prim.Native.Nat.{_+_, _*_, _-_, _≤_}
+use Prim.Native.Nat.{_+_, _*_, _-_, _≤_, ℕ, _<_}
 use native.Mathlib.Omega.{arith}
 use borrow.Author.Needs.{needs}
 use lib.ListN.{length}
@@ -9,7 +9,6 @@ use Rattle.measure.specs.Contract.{SitesF}
 use Rattle.measure.proofs.Sites.{facts}
 use Rattle.measure.proofs.Loops.{WideRest, WideTurn, wide-begin, wide-turn, wide-end}
 use Rattle.measure.proofs.OneNode.{leaf-width, known-width, inner-width, nothing-widened, outer-widened, probe-widened}
-use Prim.Native.Nat.{ℕ, _<_}
 use borrow.Fn.Kinds.{In}
 use borrow.Fn.PlainCycle.{Measures, is, falls, and}
 use Rattle.measure.proofs.widened.Reads as widened
@@ -25,7 +24,7 @@ use Rattle.style.proofs.style_at.Reads as style-at-reads
 use Rattle.style.proofs.word.Reads as word-reads
 use Rattle.util.proofs.f32_max.Reads as f32-max-reads
 use Rattle.widths.proofs.available_inside.Reads as available-inside-reads
-use Rattle.widths.proofs.is_leaf.Reads as is-leaf-reads
+use Rattle.style.proofs.is_leaf.Reads as is-leaf-reads
 use Rattle.widths.proofs.leaf_width.Reads as leaf-width-reads
 use Rattle.widths.proofs.outer_width.Reads as outer-width-reads
 use Rattle.widths.proofs.probe_known.Reads as probe-known-reads

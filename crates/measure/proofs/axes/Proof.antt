@@ -1,4 +1,4 @@
-use Rattle.steps.specs.Results.{axes}
+use Rattle.steps.specs.SizeQuestion.{axes}
 use mathlib.Core.Path.{refl}
 use Rattle.measure.proofs.axes.Statement.{statement}
 use Rattle.measure.proofs.axes.Tie as tie

@@ -6,9 +6,8 @@ use lib.ListN.{length, take, replicate}
 use denote.Ref.{now}
 use Rattle.print.specs.Pen.{Pen, pen, putAll}
 use Rattle.steps.specs.Results.{layoutResult}
-use Rattle.pages.proofs.PageText.{reply-text, cut, cut-long, long, laid-text}
-use Rattle.pages.proofs.PageText.{fits-in, bad-output, page-output, shown}
-use Rattle.pages.specs.Output.{outputOf, laidText}
+use Rattle.pages.proofs.PageText.{reply-text, cut, cut-long, long, laid-text, fits-in, bad-output, page-output, shown}
+use Rattle.pages.specs.Output.{outputText, laidPageText}
 use Rattle.print.specs.Text.{badText}
 use borrow.Author.Needs.{needs}
 use Rattle.pages.proofs.page_output.Statement.{statement}
@@ -54,7 +53,7 @@ same-length c = search needs
 returns : tie.Need-returns
 returns c =
     let a = c .before .before .before .before .before .before .before .before .before .before .before .before .before .before .args in
-    shown (outputOf (now (a .text))) (now (a .out)) (c .before .before .print-bad .last .0) (c .before .before .print-bad .result) (c .before .before .print-bad .ensures ∙ ap (λ (t : List ℕ). putAll t (pen (now (a .out)) 0)) (bad-output (now (a .text)) (c .before .before .before .before .before .before .before .before .before .read-page .result) (c .before .before .before .before .before .before .before .before .before .read-page .last .1 .0) (c .before .before .before .before .before .before .before .before .before .read-page .last .1 .1 .0) (c .before .before .before .before .before .before .before .before .before .read-page .ensures) (c .before .before .before .before .before .file .given .0 .0) (c .before .before .before .before .before .file .given .1)))
+    shown (outputText (now (a .text))) (now (a .out)) (c .before .before .print-bad .last .0) (c .before .before .print-bad .result) (c .before .before .print-bad .ensures ∙ ap (λ (t : List ℕ). putAll t (pen (now (a .out)) 0)) (bad-output (now (a .text)) (c .before .before .before .before .before .before .before .before .before .read-page .result) (c .before .before .before .before .before .before .before .before .before .read-page .last .1 .0) (c .before .before .before .before .before .before .before .before .before .read-page .last .1 .1 .0) (c .before .before .before .before .before .before .before .before .before .read-page .ensures) (c .before .before .before .before .before .file .given .0 .0) (c .before .before .before .before .before .file .given .1)))
 
 same-length-2 : tie.Need-same-length-2
 same-length-2 c = search needs
@@ -62,7 +61,7 @@ same-length-2 c = search needs
 returns-2 : tie.Need-returns-2
 returns-2 c =
     let a = c .before .before .before .before .before .before .before .before .before .before .before .before .before .before .before .before .args in
-    shown (outputOf (now (a .text))) (now (a .out)) (c .before .before .lay .last .1 .1 .1 .0) (c .before .before .lay .result) (c .before .before .lay .ensures ∙ ap (λ (t : List ℕ). putAll t (pen (now (a .out)) 0)) (page-output (now (a .text)) (c .before .before .before .before .before .before .before .before .before .before .before .read-page .result) (c .before .before .before .before .before .before .before .before .before .before .before .read-page .last .1 .0) (c .before .before .before .before .before .before .before .before .before .before .before .read-page .last .1 .1 .0) (c .before .before .before .before .before .before .before .before .before .before .before .read-page .ensures) (c .before .before .before .before .before .before .before .file2 .given .0 .0) (c .before .before .before .before .before .before .before .file2 .given .1)))
+    shown (outputText (now (a .text))) (now (a .out)) (c .before .before .lay .last .1 .1 .1 .0) (c .before .before .lay .result) (c .before .before .lay .ensures ∙ ap (λ (t : List ℕ). putAll t (pen (now (a .out)) 0)) (page-output (now (a .text)) (c .before .before .before .before .before .before .before .before .before .before .before .read-page .result) (c .before .before .before .before .before .before .before .before .before .before .before .read-page .last .1 .0) (c .before .before .before .before .before .before .before .before .before .before .before .read-page .last .1 .1 .0) (c .before .before .before .before .before .before .before .before .before .before .before .read-page .ensures) (c .before .before .before .before .before .before .before .file2 .given .0 .0) (c .before .before .before .before .before .before .before .file2 .given .1)))
 
 pub page-output-spec : {M : Type 1} → statement M
 page-output-spec =

@@ -3,14 +3,13 @@ use native.Mathlib.Omega.{arith}
 use mathlib.Core.Path.{_≡_, refl, sym, _∙_, ap}
 use mathlib.Core.Bool.{Bool, true, false, cond}
 use mathlib.Core.List.{List, [], _∷_, _++_}
-use Prim.Native.Nat.{_+_, _-_, _*_, _/_, _%_, _≤_}
+use Prim.Native.Nat.{_+_, _-_, _*_, _/_, _%_, _≤_, ℕ, _<_}
 use lib.ListN.{length, take, drop, getD}
 use borrow.Author.Tests.{lt-ltb, le-ltb}
 use denote.Ref.{now}
 use Rattle.print.specs.Pen.{pen, putAll}
 use Rattle.print.proofs.PenLaws.{put-append, full, room, nothing, then, text-step, text-end, one-digit, more-digits, more-hex, no-digits, no-hex}
 use Rattle.print.specs.Text.{glyph, decimal, hexText}
-use Prim.Native.Nat.{ℕ, _<_}
 use borrow.Fn.Kinds.{In}
 use borrow.Fn.PlainCycle.{Measures, is, falls, and}
 use Rattle.print.proofs.put_decimal.Reads as put-decimal

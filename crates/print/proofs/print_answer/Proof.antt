@@ -1,18 +1,15 @@
-use Prim.Native.Nat.{ℕ, _<_}
+use Prim.Native.Nat.{ℕ, _<_, _+_, _-_, _*_, _/_, _%_, _≤_}
 use native.Mathlib.Omega.{arith}
 use mathlib.Core.Path.{_≡_, refl, sym, _∙_, ap}
 use mathlib.Core.Bool.{Bool, true, false, cond}
-use mathlib.Core.List.{List, [], _∷_, _++_}
-use Prim.Native.Nat.{_+_, _-_, _*_, _/_, _%_, _≤_}
+use mathlib.Core.List.{List, [], _∷_, _++_, append-nil}
 use lib.ListN.{length, take, drop, getD}
-use borrow.Author.Tests.{lt-ltb, le-ltb}
+use borrow.Author.Tests.{lt-ltb, le-ltb, eq-eqb, ne-eqb}
 use denote.Ref.{now}
 use Rattle.print.specs.Pen.{pen, putAll}
 use Rattle.style.specs.Codes.{flagAt}
 use Rattle.print.proofs.PenLaws.{put-append, nothing, then, each-step, each-none, getD-any}
-use Rattle.print.specs.Text.{answerText, laidText, pageText}
-use mathlib.Core.List.{append-nil}
-use borrow.Author.Tests.{eq-eqb, ne-eqb}
+use Rattle.print.specs.Text.{answerText, acceptedText, pageText}
 use borrow.Author.Needs.{needs}
 use Rattle.print.proofs.print_answer.Statement.{statement}
 use Rattle.print.proofs.print_answer.Tie as tie

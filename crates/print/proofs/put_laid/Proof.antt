@@ -1,16 +1,15 @@
-use Prim.Native.Nat.{ℕ, _<_}
+use Prim.Native.Nat.{ℕ, _<_, _+_, _-_, _*_, _/_, _%_, _≤_}
 use native.Mathlib.Omega.{arith}
 use mathlib.Core.Path.{_≡_, refl, sym, _∙_, ap}
 use mathlib.Core.Bool.{Bool, true, false, cond}
 use mathlib.Core.List.{List, [], _∷_, _++_}
-use Prim.Native.Nat.{_+_, _-_, _*_, _/_, _%_, _≤_}
 use lib.ListN.{length, take, drop, getD}
 use borrow.Author.Tests.{lt-ltb, le-ltb}
 use denote.Ref.{now}
 use Rattle.print.specs.Pen.{pen, putAll}
 use Rattle.style.specs.Codes.{flagAt}
 use Rattle.print.proofs.PenLaws.{put-append, nothing, then, each-step, each-none, getD-any}
-use Rattle.print.specs.Text.{laidText}
+use Rattle.print.specs.Text.{acceptedText}
 use borrow.Author.Needs.{needs}
 use Rattle.print.proofs.put_laid.Statement.{statement}
 use Rattle.print.proofs.put_laid.Tie as tie
@@ -36,7 +35,7 @@ same-length : tie.Need-same-length
 same-length c = search needs
 
 returns : tie.Need-returns
-unfolding laidText
+unfolding acceptedText
 returns c = simp put-append (rw (c .before .before .put-candidates .ensures, c .before .before .before .before .before .before .put-line .ensures, c .before .before .before .before .before .before .before .before .before .before .before .put-boxes .ensures))
 
 pub put-laid-spec : {M : Type 1} → statement M

@@ -31,7 +31,7 @@ use Rattle.style.proofs.style_at.Reads as style-at-reads
 use Rattle.style.proofs.word.Reads as word-reads
 use Rattle.util.proofs.f32_max.Reads as f32-max-reads
 use Rattle.widths.proofs.available_inside.Reads as available-inside-reads
-use Rattle.widths.proofs.is_leaf.Reads as is-leaf-reads
+use Rattle.style.proofs.is_leaf.Reads as is-leaf-reads
 use Rattle.widths.proofs.leaf_width.Reads as leaf-width-reads
 use Rattle.widths.proofs.outer_width.Reads as outer-width-reads
 use Rattle.widths.proofs.probe_known.Reads as probe-known-reads

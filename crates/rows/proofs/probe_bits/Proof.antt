@@ -1,6 +1,5 @@
 use Rattle.steps.specs.Row.{withCode}
-use Rattle.rows.specs.Store.{unlaid}
-use Rattle.rows.specs.Store.{probeBits}
+use Rattle.rows.specs.Store.{unlaid, probeBits}
 use borrow.Author.Needs.{needs}
 use Rattle.rows.proofs.probe_bits.Statement.{statement}
 use Rattle.rows.proofs.probe_bits.Tie as tie

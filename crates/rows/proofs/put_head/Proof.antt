@@ -2,8 +2,7 @@ use Rattle.rows.specs.Store.{headBits}
 use native.Mathlib.Omega.{arith}
 use mathlib.Core.Path.{refl}
 use lib.ListN.{length-set}
-use Rattle.steps.specs.Row.{probeOf}
-use Rattle.steps.specs.Row.{laidRow}
+use Rattle.steps.specs.Row.{probeOf, laidRow}
 use borrow.Author.Needs.{needs}
 use Rattle.rows.proofs.put_head.Statement.{statement}
 use Rattle.rows.proofs.put_head.Tie as tie

@@ -1,7 +1,6 @@
 use native.Mathlib.Omega.{arith}
 use mathlib.Core.Path.{refl}
 use lib.ListN.{length-set}
-use mathlib.Core.Path.{refl}
 use Rattle.steps.specs.Row.{putAt}
 use borrow.Author.Needs.{needs}
 use Rattle.rows.proofs.put_place.Statement.{statement}

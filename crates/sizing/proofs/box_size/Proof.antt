@@ -1,5 +1,4 @@
-use Rattle.steps.specs.Sizing.{boxSize}
-use Rattle.steps.specs.Sizing.{heightBasis}
+use Rattle.steps.specs.Sizing.{boxSize, heightBasis}
 use borrow.Author.Needs.{needs}
 use Rattle.sizing.proofs.box_size.Statement.{statement}
 use Rattle.sizing.proofs.box_size.Tie as tie

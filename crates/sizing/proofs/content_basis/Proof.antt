@@ -1,4 +1,4 @@
-use Rattle.steps.specs.Sizing.{stepE}
+use Rattle.steps.specs.Sizing.{contentBasis}
 use borrow.Author.Needs.{needs}
 use Rattle.sizing.proofs.content_basis.Statement.{statement}
 use Rattle.sizing.proofs.content_basis.Tie as tie
@@ -10,7 +10,7 @@ maybe-sub-requires : tie.Need-maybe-sub-requires
 maybe-sub-requires c κs = search needs
 
 returns : tie.Need-returns
-unfolding stepE
+unfolding contentBasis
 returns c = rw (c .maybe-sub .ensures, c .before .horizontal-axis-sum .ensures)
 
 pub content-basis-spec : {M : Type 1} → statement M

@@ -1,5 +1,4 @@
-use Rattle.steps.specs.Sizing.{stepA}
-use Rattle.steps.specs.Sizing.{sizedBy}
+use Rattle.steps.specs.Sizing.{stepA, sizedBy}
 use borrow.Author.Needs.{needs}
 use Rattle.sizing.proofs.sizing_of.Statement.{statement}
 use Rattle.sizing.proofs.sizing_of.Tie as tie

@@ -1,4 +1,4 @@
-use Rattle.steps.specs.Stack.{stepJ}
+use Rattle.steps.specs.Stack.{questionTo}
 use borrow.Author.Needs.{needs}
 use Rattle.stacking.proofs.question_to.Statement.{statement}
 use Rattle.stacking.proofs.question_to.Tie as tie
@@ -10,7 +10,7 @@ child-input-requires : tie.Need-child-input-requires
 child-input-requires c κs = search needs
 
 returns : tie.Need-returns
-unfolding stepJ
+unfolding questionTo
 returns c = rw (c .child-input .ensures, c .before .item-of .ensures)
 
 pub question-to-spec : {M : Type 1} → statement M

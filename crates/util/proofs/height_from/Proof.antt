@@ -1,4 +1,4 @@
-use Rattle.util.specs.Maybe.{heightFrom}
+use Rattle.util.specs.Maybe.{ratioHeight}
 use borrow.Author.Needs.{needs}
 use Rattle.util.proofs.height_from.Statement.{statement}
 use Rattle.util.proofs.height_from.Tie as tie
@@ -10,11 +10,11 @@ enum-known-width : tie.Need-enum-known-width
 enum-known-width c = search needs
 
 returns : tie.Need-returns
-unfolding heightFrom
+unfolding ratioHeight
 returns c = rw (c .enum-told .given .1)
 
 returns-2 : tie.Need-returns-2
-unfolding heightFrom
+unfolding ratioHeight
 returns-2 c = rw (c .before .width .given .1)
 
 pub height-from-spec : {M : Type 1} → statement M

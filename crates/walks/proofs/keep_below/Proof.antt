@@ -5,9 +5,8 @@ use native.Mathlib.Omega.{arith}
 use borrow.Author.Needs.{needs}
 use lib.ListN.{length, length-set}
 use lib.Ieee.{Float}
-use Rattle.style.specs.Codes.{codeAt, kindOf, positionOf}
 use Rattle.tree.specs.Tree.{Forest}
-use Rattle.steps.specs.Width.{flowBy}
+use Rattle.style.specs.Flow.{flowAt}
 use Rattle.steps.specs.Page.{Cell}
 use Rattle.walks.specs.Tables.{TabledF}
 use Rattle.walks.proofs.KeepLoop.{Rest, Turn, begin, turn, end}
@@ -59,8 +58,8 @@ mul-e2 c = let f = at-turn (c) in let w = c .before .before .before .before .bef
 word-requires-2 : tie.Need-word-requires-2 Inv-loop μ-loop
 word-requires-2 c κs = search needs
 
-flow-in-requires : tie.Need-flow-in-requires Inv-loop μ-loop
-flow-in-requires c κs = search needs
+flow-at-requires : tie.Need-flow-at-requires Inv-loop μ-loop
+flow-at-requires c κs = search needs
 
 enum-told : tie.Need-enum-told Inv-loop μ-loop
 enum-told c = search needs
@@ -102,7 +101,7 @@ loop-less : tie.Need-loop-less Inv-loop μ-loop
 loop-less c = let f = at-turn (c .before .before .before .before .before .before .before .before .before .before .before .before) in let w = c .before .before .before .before .before .before .before .before .before .before .before .before .before .before .before .before .before .before .pre .fit in omega arith
 
 loop-again : tie.Need-loop-again Inv-loop μ-loop
-loop-again c = let f = at-turn (c .before .before .before .before .before .before .before .before .before .before .before .before) in (omega arith, omega arith, omega arith, λ xs es b ts h. turn _ _ _ _ _ _ ts _ _ (ap (λ (k : ℕ). c .before .before .before .before .before .before .before .before .before .before .before .before .before .before .loop .i + k) (c .before .before .before .before .before .before .before .before .before .before .before .before .word .ensures)) (c .before .before .before .before .before .before .before .before .before .before .before .before .before .before .loop .inv .3 xs es b ts h) (c .before .before .before .before .before .before .before .before .before .before .before .before .before .loop-test .taken) .gone _ _ (sym (c .before .before .before .before .before .before .before .before .before .before .flow-in .ensures ∙ ap (λ (k : ℕ). flowBy (kindOf (codeAt k 0)) (positionOf (codeAt k 2))) (c .before .before .before .before .before .before .before .before .before .before .before .word2 .ensures)) ∙ c .before .before .before .before .before .before .before .before .enum-told .given .1) (c .before .before .before .before .put-hidden .ensures .0) (c .before .before .before .before .put-hidden .ensures .1))
+loop-again c = let f = at-turn (c .before .before .before .before .before .before .before .before .before .before .before .before) in (omega arith, omega arith, omega arith, λ xs es b ts h. turn _ _ _ _ _ _ ts _ _ (ap (λ (k : ℕ). c .before .before .before .before .before .before .before .before .before .before .before .before .before .before .loop .i + k) (c .before .before .before .before .before .before .before .before .before .before .before .before .word .ensures)) (c .before .before .before .before .before .before .before .before .before .before .before .before .before .before .loop .inv .3 xs es b ts h) (c .before .before .before .before .before .before .before .before .before .before .before .before .before .loop-test .taken) .gone _ _ (sym (c .before .before .before .before .before .before .before .before .before .before .flow-at .ensures ∙ ap (λ (k : ℕ). flowAt k) (c .before .before .before .before .before .before .before .before .before .before .before .word2 .ensures)) ∙ c .before .before .before .before .before .before .before .before .enum-told .given .1) (c .before .before .before .before .put-hidden .ensures .0) (c .before .before .before .before .put-hidden .ensures .1))
 
 enum-told-2 : tie.Need-enum-told-2 Inv-loop μ-loop
 enum-told-2 c = search needs
@@ -168,7 +167,7 @@ loop-less-2 : tie.Need-loop-less-2 Inv-loop μ-loop
 loop-less-2 c = let f = at-turn (c .before .before .before .before .before .before .before .before .before .before .before .before .before .before .before) in let w = c .before .before .before .before .before .before .before .before .before .before .before .before .before .before .before .before .before .before .before .before .before .pre .fit in omega arith
 
 loop-again-2 : tie.Need-loop-again-2 Inv-loop μ-loop
-loop-again-2 c = let f = at-turn (c .before .before .before .before .before .before .before .before .before .before .before .before .before .before .before) in (omega arith, omega arith, omega arith, λ xs es b ts h. turn _ _ _ _ _ _ ts _ _ (ap (λ (k : ℕ). c .before .before .before .before .before .before .before .before .before .before .before .before .before .before .before .before .before .loop .i + k) (c .before .before .before .before .before .before .before .before .before .before .before .before .before .before .before .word .ensures)) (c .before .before .before .before .before .before .before .before .before .before .before .before .before .before .before .before .before .loop .inv .3 xs es b ts h) (c .before .before .before .before .before .before .before .before .before .before .before .before .before .before .before .before .loop-test .taken) .out _ _ (sym (c .before .before .before .before .before .before .before .before .before .before .before .before .before .flow-in .ensures ∙ ap (λ (k : ℕ). flowBy (kindOf (codeAt k 0)) (positionOf (codeAt k 2))) (c .before .before .before .before .before .before .before .before .before .before .before .before .before .before .word2 .ensures)) ∙ c .before .before .before .before .before .before .before .before .before .before .before .enum-told2 .given .1) (c .before .before .before .before .put-aside .ensures .0) (c .before .before .before .before .put-aside .ensures .1))
+loop-again-2 c = let f = at-turn (c .before .before .before .before .before .before .before .before .before .before .before .before .before .before .before) in (omega arith, omega arith, omega arith, λ xs es b ts h. turn _ _ _ _ _ _ ts _ _ (ap (λ (k : ℕ). c .before .before .before .before .before .before .before .before .before .before .before .before .before .before .before .before .before .loop .i + k) (c .before .before .before .before .before .before .before .before .before .before .before .before .before .before .before .word .ensures)) (c .before .before .before .before .before .before .before .before .before .before .before .before .before .before .before .before .before .loop .inv .3 xs es b ts h) (c .before .before .before .before .before .before .before .before .before .before .before .before .before .before .before .before .loop-test .taken) .out _ _ (sym (c .before .before .before .before .before .before .before .before .before .before .before .before .before .flow-at .ensures ∙ ap (λ (k : ℕ). flowAt k) (c .before .before .before .before .before .before .before .before .before .before .before .before .before .before .word2 .ensures)) ∙ c .before .before .before .before .before .before .before .before .before .before .before .enum-told2 .given .1) (c .before .before .before .before .put-aside .ensures .0) (c .before .before .before .before .put-aside .ensures .1))
 
 enum-told-3 : tie.Need-enum-told-3 Inv-loop μ-loop
 enum-told-3 c = search needs
@@ -201,7 +200,7 @@ loop-less-3 : tie.Need-loop-less-3 Inv-loop μ-loop
 loop-less-3 c = let f = at-turn (c .before .before .before .before .before .before) in let w = c .before .before .before .before .before .before .before .before .before .before .before .before .pre .fit in omega arith
 
 loop-again-3 : tie.Need-loop-again-3 Inv-loop μ-loop
-loop-again-3 c = let f = at-turn (c .before .before .before .before .before .before) in (omega arith, simp length-set (omega arith), omega arith, λ xs es b ts h. rw (c .laid-bits .ensures) (turn _ _ _ _ _ _ ts _ _ (ap (λ (k : ℕ). c .before .before .before .before .before .before .before .before .loop .i + k) (c .before .before .before .before .before .before .word .ensures)) (c .before .before .before .before .before .before .before .before .loop .inv .3 xs es b ts h) (c .before .before .before .before .before .before .before .loop-test .taken) .stays (sym (c .before .before .before .before .flow-in .ensures ∙ ap (λ (k : ℕ). flowBy (kindOf (codeAt k 0)) (positionOf (codeAt k 2))) (c .before .before .before .before .before .word2 .ensures)) ∙ c .before .before .enum-told3 .given .1)))
+loop-again-3 c = let f = at-turn (c .before .before .before .before .before .before) in (omega arith, simp length-set (omega arith), omega arith, λ xs es b ts h. rw (c .laid-bits .ensures) (turn _ _ _ _ _ _ ts _ _ (ap (λ (k : ℕ). c .before .before .before .before .before .before .before .before .loop .i + k) (c .before .before .before .before .before .before .word .ensures)) (c .before .before .before .before .before .before .before .before .loop .inv .3 xs es b ts h) (c .before .before .before .before .before .before .before .loop-test .taken) .stays (sym (c .before .before .before .before .flow-at .ensures ∙ ap (λ (k : ℕ). flowAt k) (c .before .before .before .before .before .word2 .ensures)) ∙ c .before .before .enum-told3 .given .1)))
 
 same-length : tie.Need-same-length Inv-loop μ-loop
 same-length c = c .before .loop .inv .0
@@ -228,7 +227,7 @@ keep-below-spec =
     mul-i2
     mul-e2
     word-requires-2
-    flow-in-requires
+    flow-at-requires
     enum-told
     mul-order
     slice-read-order

@@ -1,4 +1,4 @@
-use Rattle.steps.specs.Width.{stepF}
+use Rattle.steps.specs.Width.{wantOf}
 use borrow.Author.Needs.{needs}
 use Rattle.widths.proofs.want_of.Statement.{statement}
 use Rattle.widths.proofs.want_of.Tie as tie
@@ -10,7 +10,7 @@ want-in-requires : tie.Need-want-in-requires
 want-in-requires c κs = search needs
 
 returns : tie.Need-returns
-unfolding stepF
+unfolding wantOf
 returns c = rw (c .want-in .ensures, c .before .flow-of .ensures)
 
 pub want-of-spec : {M : Type 1} → statement M

@@ -1,4 +1,4 @@
-use Rattle.steps.specs.Probe.{widthFrom}
+use Rattle.steps.specs.Probe.{foundWidth}
 use borrow.Author.Needs.{needs}
 use Rattle.widths.proofs.width_from.Statement.{statement}
 use Rattle.widths.proofs.width_from.Tie as tie
@@ -13,7 +13,7 @@ content-width-requires : tie.Need-content-width-requires
 content-width-requires c κs = search needs
 
 returns : tie.Need-returns
-unfolding widthFrom
+unfolding foundWidth
 returns c = rw (c .content-width .ensures, c .before .content-box-inset .ensures, c .before .before .before .sizing-of .ensures)
 
 pub width-from-spec : {M : Type 1} → statement M

@@ -13,7 +13,7 @@ use Rattle.heights.proofs.finish.Reads as finish-reads
 use Rattle.heights.proofs.leaf_output.Reads as leaf-output-reads
 use Rattle.rows.proofs.put_head.Reads as put-head-reads
 use Rattle.style.proofs.style_at.Reads as style-at-reads
-use Rattle.widths.proofs.is_leaf.Reads as is-leaf-reads
+use Rattle.style.proofs.is_leaf.Reads as is-leaf-reads
 use Rattle.compute.proofs.compute_block_layout.Reads as reads
 use Rattle.compute.proofs.compute_block_layout.Kinds as kinds
 use Rattle.compute.proofs.+compute_block_layout+compute_child_layout+perform_child_layout+perform_final_layout_on_in_flow_children.Lts-compute_block_layout as lts

@@ -17,7 +17,7 @@ use Rattle.stacking.proofs.place_of.Reads as place-of-reads
 use Rattle.stacking.proofs.question_to.Reads as question-to-reads
 use Rattle.stacking.proofs.stepped_past.Reads as stepped-past-reads
 use Rattle.style.proofs.style_at.Reads as style-at-reads
-use Rattle.widths.proofs.flow_of.Reads as flow-of-reads
+use Rattle.style.proofs.flow_of.Reads as flow-of-reads
 use Rattle.compute.proofs.perform_child_layout.Reads as reads
 use Rattle.compute.proofs.perform_child_layout.Kinds as kinds
 use Rattle.compute.proofs.+compute_block_layout+compute_child_layout+perform_child_layout+perform_final_layout_on_in_flow_children.Lts-perform_child_layout as lts

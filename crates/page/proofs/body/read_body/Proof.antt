@@ -9,10 +9,9 @@ use lib.Seq.{sets, length-sets, set-out}
 use lib.Dec.{eqb}
 use borrow.Author.Tests.{eq-eqb, ne-eqb}
 use denote.Ref.{now}
-use Rattle.page.specs.Body.{tables, bodyLine, nodeStep, numStep, nodeIn, numIn, Stepped}
+use Rattle.page.specs.Body.{tables, bodyLine, nodeStep, numStep, nodeIn, numIn, Stepped, rest, TablesFit, Ended}
 use Rattle.page.proofs.BodyTurn.{goes-on, stops-here, line-node, line-num, line-bad, four, node-stop, node-go, num-stop, num-go, turn-stop, turn-go, at-end}
 use Rattle.text.specs.Pieces.{linesOf}
-use Rattle.page.specs.Body.{rest, Room, Ended}
 use Rattle.page.proofs.body.read_body.Statement.{statement}
 use Rattle.page.proofs.body.read_body.Tie as tie
 use Rattle.page.proofs.body.read_body.Reads as reads
@@ -21,7 +20,7 @@ use Rattle.page.proofs.body.body_line.Reads as body-line-reads
 use Rattle.text.proofs.piece_end.Reads as piece-end-reads
 
 abbrev Inv-loop : tie.InvT-loop
-Inv-loop text from whole n words₀ numbers₀ at₀ line₀ count₀ words numbers at line count = (at ≤ length text + 1) × (line ≤ at + 6) × (5 < line) × (Room n count words numbers) × (length words ≡ length words₀) × (length numbers ≡ length numbers₀) × (rest whole n 6 (tables 0 words₀ numbers₀) (linesOf (drop from text)) ≡ rest whole n line (tables count words numbers) (linesOf (drop at text)))
+Inv-loop text from whole n words₀ numbers₀ at₀ line₀ count₀ words numbers at line count = (at ≤ length text + 1) × (line ≤ at + 6) × (5 < line) × (TablesFit n count words numbers) × (length words ≡ length words₀) × (length numbers ≡ length numbers₀) × (rest whole n 6 (tables 0 words₀ numbers₀) (linesOf (drop from text)) ≡ rest whole n line (tables count words numbers) (linesOf (drop at text)))
 
 abbrev μ-loop : tie.MeasureT-loop
 μ-loop text from whole n words₀ numbers₀ at₀ line₀ count₀ words numbers at line count = length text + 1 - at

@@ -5,7 +5,7 @@ use native.Mathlib.Omega.{arith}
 use lib.Ieee.{Float}
 use borrow.Author.Needs.{needs}
 use Rattle.steps.specs.Page.{nodesIn}
-use Rattle.tables.specs.Walk.{flowAt}
+use Rattle.style.specs.Flow.{flowAt}
 use Rattle.tables.proofs.NeededWalk.{Left, begin, turn, end}
 use Rattle.tables.proofs.needed.count_needed.Statement.{statement}
 use Rattle.tables.proofs.needed.count_needed.Tie as tie

@@ -1,7 +1,7 @@
-use Rattle.steps.specs.Width.{flowBy}
+use Rattle.style.specs.Flow.{flowBy}
 use borrow.Author.Needs.{needs}
-use Rattle.widths.proofs.flow_by.Statement.{statement}
-use Rattle.widths.proofs.flow_by.Tie as tie
+use Rattle.style.proofs.flow_by.Statement.{statement}
+use Rattle.style.proofs.flow_by.Tie as tie
 
 enum-told : tie.Need-enum-told
 enum-told c = search needs

@@ -1,7 +1,7 @@
-use Rattle.steps.specs.Width.{flowOf}
+use Rattle.style.specs.Flow.{flowOf}
 use borrow.Author.Needs.{needs}
-use Rattle.widths.proofs.flow_of.Statement.{statement}
-use Rattle.widths.proofs.flow_of.Tie as tie
+use Rattle.style.proofs.flow_of.Statement.{statement}
+use Rattle.style.proofs.flow_of.Tie as tie
 
 flow-by-requires : tie.Need-flow-by-requires
 flow-by-requires c κs = search needs

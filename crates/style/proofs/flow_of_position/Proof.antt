@@ -1,7 +1,7 @@
-use Rattle.steps.specs.Width.{positioned}
+use Rattle.style.specs.Flow.{positioned}
 use borrow.Author.Needs.{needs}
-use Rattle.tables.proofs.needed.placed.Statement.{statement}
-use Rattle.tables.proofs.needed.placed.Tie as tie
+use Rattle.style.proofs.flow_of_position.Statement.{statement}
+use Rattle.style.proofs.flow_of_position.Tie as tie
 
 enum-told : tie.Need-enum-told
 enum-told c = search needs
@@ -24,5 +24,6 @@ returns-3 : tie.Need-returns-3
 unfolding positioned
 returns-3 c = rw (c .enum-told3 .given .1)
 
-pub placed-spec : {M : Type 1} → statement M
-placed-spec = tie.close (tie.spec enum-told enum-told-2 enum-told-3 returns returns-2 returns-3)
+pub flow-of-position-spec : {M : Type 1} → statement M
+flow-of-position-spec =
+    tie.close (tie.spec enum-told enum-told-2 enum-told-3 returns returns-2 returns-3)

@@ -1,7 +1,7 @@
-use Rattle.steps.specs.Width.{isLeaf}
+use Rattle.style.specs.Flow.{isLeaf}
 use borrow.Author.Needs.{needs}
-use Rattle.widths.proofs.is_leaf.Statement.{statement}
-use Rattle.widths.proofs.is_leaf.Tie as tie
+use Rattle.style.proofs.is_leaf.Statement.{statement}
+use Rattle.style.proofs.is_leaf.Tie as tie
 
 enum-told : tie.Need-enum-told
 enum-told c = search needs

@@ -1,7 +1,7 @@
-use Rattle.tables.specs.Walk.{flowAt}
+use Rattle.style.specs.Flow.{flowAt}
 use borrow.Author.Needs.{needs}
-use Rattle.tables.proofs.needed.flow_at.Statement.{statement}
-use Rattle.tables.proofs.needed.flow_at.Tie as tie
+use Rattle.style.proofs.flow_at.Statement.{statement}
+use Rattle.style.proofs.flow_at.Tie as tie
 
 kind-of-requires : tie.Need-kind-of-requires
 kind-of-requires c κs = search needs
