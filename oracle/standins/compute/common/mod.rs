@@ -1,0 +1,3 @@
+//! Stand-in: the list of modules. Both are the crate's.
+pub mod alignment;
+pub mod sizing_keyword;

@@ -1,0 +1,3 @@
+//! Stand-in: a node is its number in the page.
+#[derive(Copy, Clone, PartialEq, Eq, Debug)]
+pub struct NodeId(pub usize);
