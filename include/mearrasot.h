@@ -105,8 +105,10 @@ enum mearrasot_field {
 
 /*
  * rows, 16 for each node, written by layout and relayout.
- * Of a laid node: its place in its parent's box, its size, its margins as
- * they reach its parent, and the question it was asked. What is absent is 0.
+ * Of a laid node: its place in its parent's box, its size, two margin sets, and
+ * the question it was asked. What is absent is 0. A set that leaves the box holds
+ * the margins of its children without its own; one that does not holds its own
+ * margin alone.
  * Of a shown node out of the flow: start, line and end in 0, 1 and 2.
  * 11 to 15 are for the next relayout alone.
  */

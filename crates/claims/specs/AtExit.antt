@@ -1,5 +1,5 @@
 -- Demand 3 of the public functions: what their contracts promise at exit, put together.
-use mathlib.Core.Path.{_≡_, sym, ap, _∙_}
+use mathlib.Core.Path.{_≡_, refl, sym, ap, _∙_}
 use mathlib.Core.List.{List}
 use Prim.Native.Nat.{ℕ, _<_}
 use lib.Ieee.{Float}
@@ -30,6 +30,10 @@ one-reply r s a b rs rs′ ms ms′ cw cw′ cx cx′ e x y =
       words = x .words-are ∙ ap (λ (z : Reply). z .words) e ∙ sym (y .words-are);
       numbers = x .numbers-are ∙ ap (λ (z : Reply). z .numbers) e ∙ sym (y .numbers-are);
     }
+
+-- one outcome: what is lent settles the answer and every lent word
+pub one-outcome : (r : Reply) (a b : Answer) (rs rs′ : List Float) (ms ms′ cw cw′ : List ℕ) (cx cx′ : List Float) → Replied r a rs ms cw cx → Replied r b rs′ ms′ cw′ cx′ → Alike a b rs rs′ ms ms′ cw cw′ cx cx′
+one-outcome r a b rs rs′ ms ms′ cw cw′ cx cx′ x y = one-reply r r a b rs rs′ ms ms′ cw cw′ cx cx′ refl x y
 
 -- `relayout` on rows that calls left, and `layout` on the same page: they end alike
 pub relayout-ends-as-layout : (ws : List ℕ) (xs : List Float) (q : LayoutInput) (rs : List Float) (ms : List ℕ) (ws′ : List ℕ) (xs′ : List Float) (cw : List ℕ) (cx : List Float) (es : List ℕ) (p : LayoutInput) (a b : Answer) (r1 r2 : List Float) (m1 m2 w1 w2 : List ℕ) (x1 x2 : List Float)

@@ -2,5 +2,8 @@ pub mod Discharged
 pub mod Claims
 pub mod Honest
 pub mod AtExit
-pub mod Outcomes
+pub mod EveryCall
+pub mod Agreeing
+pub mod Unread
+pub mod NotEmpty
 pub mod NeverCut

@@ -16,6 +16,7 @@ use Rattle.steps.specs.Page.{nodesIn, pageOf}
 use Rattle.steps.specs.Layout.{fresh}
 use Rattle.steps.specs.Candidates.{candidates, needed}
 use Rattle.steps.specs.Noes.{paper, badTables, badRows, badRow, recordsIn, refuseIf, andThen, pageTested, no5, layoutTested}
+use Rattle.steps.specs.Question.{rootInput}
 use Rattle.steps.specs.Results.{Reply, rowsOut, onFront, accepted, overLimit, replied, tested, layoutResult}
 use Rattle.steps.specs.declared.LayoutInput.{LayoutInput}
 use Rattle.steps.specs.declared.Answer.{Answer}
@@ -68,11 +69,11 @@ laid-fits h ws xs few =
     let n = h .count in
     let cw : List ℕ = replicate (2 * n) 0 in
     let cx : List Float = replicate (3 * n) zeroF in
-    let r = layoutResult (take (4 * n) ws) (take (27 * n) xs) (replicate (16 * n) zeroF) (replicate (2 * n) 0) cw cx (h .question) in
+    let r = layoutResult (take (4 * n) ws) (take (27 * n) xs) (replicate (16 * n) zeroF) (replicate (2 * n) 0) cw cx (rootInput (h .question)) in
     let a : length cw ≡ 2 * n = length-replicate (2 * n) 0 in
     let b : length cx ≡ 3 * n = length-replicate (3 * n) zeroF in
     let k : recordsIn cw cx ≤ n = omega arith in
-    let s = page-short (r .answer) n n (r .rows) (r .marks) (r .words) (r .numbers) (λ e. omega (arith, k, count-few (take (4 * n) ws) (take (27 * n) xs) (replicate (16 * n) zeroF) (replicate (2 * n) 0) cw cx (h .question) e)) in
+    let s = page-short (r .answer) n n (r .rows) (r .marks) (r .words) (r .numbers) (λ e. omega (arith, k, count-few (take (4 * n) ws) (take (27 * n) xs) (replicate (16 * n) zeroF) (replicate (2 * n) 0) cw cx (rootInput (h .question)) e)) in
     omega (arith, s)
 
 file-fits : (f : PageFile) (ws : List ℕ) (xs : List Float) → ((h : Head) → f ≡ Page h → h .count ≤ 512) → length (fileText f ws xs) ≤ 131072

@@ -10,16 +10,13 @@ use Rattle.steps.specs.SizeQuestion.{axes}
 use Rattle.steps.specs.Results.{Reply, sizeResult, sizePaper}
 use Rattle.steps.specs.declared.Answer.{Answer}
 use Rattle.steps.specs.declared.Answer.the-variants.{Done}
-use Rattle.steps.specs.declared.LayoutInput.{LayoutInput}
+use Rattle.steps.specs.Question.{rootInput}
+use Rattle.steps.specs.declared.Question.{Question}
 use Rattle.steps.specs.declared.RequestedAxis.{RequestedAxis}
 use Rattle.steps.specs.declared.SizeAnswer.{SizeAnswer}
 use Rattle.steps.specs.declared.SizeAnswer.the-variants as size
 use Rattle.layout.specs.Public.{Replied}
 use Rattle.face.specs.Answered.{Halves, Answered, Sized}
-
--- one case of an answer
-pub of-case : {a b : Answer} {p : ℕ × ℕ} {r : ℕ} → a ≡ b → paper b ≡ p → Halves p r → Halves (paper a) r
-of-case {a} {b} {p} {r} e f h = subst (λ (q : ℕ × ℕ). Halves q r) (sym (ap paper e ∙ f)) h
 
 -- the answer packed, the memory as it was left
 pub answered : {w v : Reply} {a : Answer} {r : ℕ} {rows : List Float} {marks : List ℕ} {pairs : List ℕ} {triples : List Float} → w ≡ v → Replied w a rows marks pairs triples → Halves (paper a) r → Answered v r rows marks pairs triples
@@ -34,8 +31,8 @@ answered {w} {v} {a} {r} {rows} {marks} {pairs} {triples} e s h =
     }
 
 -- the same question, put as numbers
-pub asked : (ws : List ℕ) (xs : List Float) {q k : LayoutInput} {a b : RequestedAxis} → q ≡ k → a ≡ b → sizeResult ws xs q a ≡ sizeResult ws xs k b
-asked ws xs {q} {k} {a} {b} e f = ap (λ (p : LayoutInput). sizeResult ws xs p a) e ∙ ap (sizeResult ws xs k) f
+pub asked : (ws : List ℕ) (xs : List Float) {q k : Question} {a b : RequestedAxis} → q ≡ k → a ≡ b → sizeResult ws xs (rootInput q) a ≡ sizeResult ws xs (rootInput k) b
+asked ws xs {q} {k} {a} {b} e f = ap (λ (p : Question). sizeResult ws xs (rootInput p) a) e ∙ ap (sizeResult ws xs (rootInput k)) f
 
 -- a size that is given
 pub sized : {v : SizeAnswer} {s : geometry.Size} {r : ℕ} → v ≡ size.Sized s → Halves (paper (Done 0)) r → Sized v r (s .width ∷ s .height ∷ [])

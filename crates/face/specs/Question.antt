@@ -7,7 +7,7 @@ use Rattle.util.specs.declared.OptionF32.the-variants.{None, Some}
 use Rattle.length.specs.declared.AvailableSpace.{AvailableSpace}
 use Rattle.length.specs.declared.AvailableSpace.the-variants.{Definite, MinContent, MaxContent}
 use Rattle.style.specs.Codes.{codeAt, flagAt, pick4}
-use Rattle.steps.specs.declared.LayoutInput.{LayoutInput}
+use Rattle.steps.specs.declared.Question.{Question}
 use Rattle.steps.specs.declared.RequestedAxis.{RequestedAxis}
 use Rattle.steps.specs.declared.RequestedAxis.the-variants.{Horizontal, Both}
 
@@ -20,15 +20,14 @@ unfoldable pub availableOf : ℕ → Float → AvailableSpace
 availableOf k x = pick4 k MaxContent (Definite x) MinContent MaxContent
 
 -- bit 0 known width given, bit 1 known height given, bits 2-3 the kind of available width, bits 4 and 5 the two flags
-unfoldable pub plainQuestion : Float → Float → Float → Float → ℕ → LayoutInput
+unfoldable pub plainQuestion : Float → Float → Float → Float → ℕ → Question
 plainQuestion width height parent available how =
     record {
       known = record { width = given (flagAt how 0) width; height = given (flagAt how 1) height };
-      parent = Some parent;
+      parent = parent;
       available = availableOf (codeAt how 1) available;
       collapseStart = flagAt how 4;
       collapseEnd = flagAt how 5;
-      nested = false;
     }
 
 -- bit 6: width only. Bits from 7 on mean nothing.

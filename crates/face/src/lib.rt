@@ -2,14 +2,17 @@
 ghost use mathlib.Core.Path.{_≡_};
 ghost use Prim.Native.Nat.{_≤_};
 ghost use Rattle.steps.specs.Noes.{paper};
+ghost use Rattle.steps.specs.Question.{rootInput};
 ghost use Rattle.steps.specs.Results.{layoutResult, relayoutResult, sizeResult, sizePaper};
 ghost use Rattle.face.specs.Question.{given, availableOf, plainQuestion, axisOf};
 ghost use Rattle.face.specs.Answered.{Halves, Answered, Sized};
 use length::AvailableSpace;
 use steps::Answer;
-use steps::LayoutInput;
+use steps::Question;
 use steps::RequestedAxis;
 use steps::SizeAnswer;
+use steps::number_of;
+use steps::place_of;
 use style::code;
 use style::flag;
 use util::OptionF32;
@@ -39,20 +42,19 @@ fn available_of(k: u32, x: f32) -> AvailableSpace
 }
 
 // The question that four floats and the bits of a word ask.
-fn question(width: f32, height: f32, parent: f32, available: f32, how: u32) -> LayoutInput
+fn question(width: f32, height: f32, parent: f32, available: f32, how: u32) -> Question
     ensures { λ r. ⌜ r ≡ plainQuestion width height parent available how ⌝ }
 {
     let known = OptionSize {
         width: option(flag(how, 0), width),
         height: option(flag(how, 1), height),
     };
-    LayoutInput {
+    Question {
         known,
-        parent: OptionF32::Some(parent),
+        parent,
         available: available_of(code(how, 1), available),
         collapseStart: flag(how, 4),
         collapseEnd: flag(how, 5),
-        nested: false,
     }
 }
 
@@ -79,17 +81,7 @@ fn halves(number: u64, place: u32) -> u64
 fn packed(a: Answer) -> u64
     ensures { λ r. ⌜ Halves (paper a) r ⌝ }
 {
-    match a {
-        Answer::Done(n) => halves(0, n),
-        Answer::Lengths => halves(1, 0),
-        Answer::Tree(i) => halves(2, i.0),
-        Answer::Codes(i) => halves(3, i.0),
-        Answer::Numbers(i) => halves(4, i),
-        Answer::Room => halves(5, 0),
-        Answer::Edits(k) => halves(6, k),
-        Answer::NotLaid => halves(7, 0),
-        Answer::TooLarge(i) => halves(8, i.0),
-    }
+    halves(number_of(a) as u64, place_of(a))
 }
 
 // A fresh layout of a page.
@@ -107,7 +99,7 @@ pub extern "C" fn mearrasot_layout(
     available: f32,
     how: u32,
 ) -> u64
-    ensures { λ r. ⌜ Answered (layoutResult (now (words .entry)) (now (numbers .entry)) (now (rows .entry)) (now (marks .entry)) (now (pairs .entry)) (now (triples .entry)) (plainQuestion width height parent available how)) r (now (rows .exit)) (now (marks .exit)) (now (pairs .exit)) (now (triples .exit)) ⌝ }
+    ensures { λ r. ⌜ Answered (layoutResult (now (words .entry)) (now (numbers .entry)) (now (rows .entry)) (now (marks .entry)) (now (pairs .entry)) (now (triples .entry)) (rootInput (plainQuestion width height parent available how))) r (now (rows .exit)) (now (marks .exit)) (now (pairs .exit)) (now (triples .exit)) ⌝ }
 {
     let q = question(width, height, parent, available, how);
     let a = layout::layout(words, numbers, rows, marks, pairs, triples, q);
@@ -130,7 +122,7 @@ pub extern "C" fn mearrasot_relayout(
     available: f32,
     how: u32,
 ) -> u64
-    ensures { λ r. ⌜ Answered (relayoutResult (now (words .entry)) (now (numbers .entry)) (now (rows .entry)) (now (marks .entry)) (now (pairs .entry)) (now (triples .entry)) (now (edits .entry)) (plainQuestion width height parent available how)) r (now (rows .exit)) (now (marks .exit)) (now (pairs .exit)) (now (triples .exit)) ⌝ }
+    ensures { λ r. ⌜ Answered (relayoutResult (now (words .entry)) (now (numbers .entry)) (now (rows .entry)) (now (marks .entry)) (now (pairs .entry)) (now (triples .entry)) (now (edits .entry)) (rootInput (plainQuestion width height parent available how))) r (now (rows .exit)) (now (marks .exit)) (now (pairs .exit)) (now (triples .exit)) ⌝ }
 {
     let q = question(width, height, parent, available, how);
     let a = layout::relayout(words, numbers, rows, marks, pairs, triples, edits, q);
@@ -149,7 +141,7 @@ pub extern "C" fn mearrasot_size(
     available: f32,
     how: u32,
 ) -> u64
-    ensures { λ r. ⌜ Sized (sizeResult (now (words .entry)) (now (numbers .entry)) (plainQuestion width height parent available how) (axisOf how)) r (now (size .exit)) ⌝ }
+    ensures { λ r. ⌜ Sized (sizeResult (now (words .entry)) (now (numbers .entry)) (rootInput (plainQuestion width height parent available how)) (axisOf how)) r (now (size .exit)) ⌝ }
 {
     let q = question(width, height, parent, available, how);
     let a = measure::size_question(words, numbers, q, axis(how));

@@ -1,2 +1,2 @@
-// Facts about the definitions, proved in specs/: the checked pages of document 01, worked relayouts, what rows hold.
+// The checked pages of document 01, worked out by the prover: specs/Pages.antt.
 pub const CHECKED_PAGES: u32 = 8;

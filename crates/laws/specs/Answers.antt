@@ -12,8 +12,8 @@ use Rattle.steps.specs.Candidates.{needed}
 use Rattle.steps.specs.Row.{Row}
 use Rattle.steps.specs.Page.{nodesIn, pageOf, cellsOf}
 use Rattle.steps.specs.Layout.{relaid, fresh}
-use Rattle.steps.specs.Scan.{lowest}
-use Rattle.steps.specs.Noes.{refuseIf, andThen, atFault, no2, no3, no4, no5, no6, no7, pageTested, layoutTested, relayoutTested, badTables, badRows, badTree, badCodes, badNumbers, badQuestion, recordsIn, badEdit, badRow}
+use Rattle.steps.specs.Scan.{lowest, firstOf}
+use Rattle.steps.specs.Noes.{refuseIf, andThen, atFault, atSpot, no2, no3, no4, no5, no6, no7, pageTested, layoutTested, relayoutTested, badTables, badRows, badTree, badCodes, badNumbers, badQuestion, recordsIn, badEdit, badRow}
 use Rattle.steps.specs.Results.{Reply, rowsOut, marksOut, accepted, overLimit, replied, tested, layoutResult, relayoutResult}
 use Rattle.steps.specs.declared.LayoutInput.{LayoutInput}
 use Rattle.steps.specs.declared.Answer.{Answer}
@@ -22,6 +22,8 @@ use Rattle.steps.specs.declared.Tested.{Tested}
 use Rattle.steps.specs.declared.Tested.the-variants.{Pass, Refuse}
 use Rattle.steps.specs.declared.Found.{Found}
 use Rattle.steps.specs.declared.Found.the-variants.{Nowhere, At}
+use Rattle.steps.specs.declared.Spot.{Spot}
+use Rattle.steps.specs.declared.Spot.the-variants as spot
 use Rattle.laws.specs.Trees.{false-true}
 
 -- a refusal is not an answer of 0
@@ -61,6 +63,11 @@ unfolding atFault
 fair-fault a h Nowhere = fair-pass
 fair-fault a h (At i) = fair-refuse (a (i .0)) (h (i .0))
 
+fair-spot : (w : Spot) → Fair (atSpot w)
+unfolding atSpot
+fair-spot spot.Nowhere = fair-pass
+fair-spot (spot.At k) = fair-refuse (Edits k) refl
+
 fair-no2 : (ws : List ℕ) → Fair (no2 ws)
 unfolding no2
 fair-no2 ws = fair-fault (λ i. Tree (record { 0 = i })) (λ _. refl) (lowest (badTree ws) (nodesIn ws))
@@ -82,8 +89,8 @@ fair-no5 ws xs cw cx = fair-if (ltb (recordsIn cw cx) (needed (pageOf ws xs []))
 fair-no6 : (es : List ℕ) (n : ℕ) → Fair (no6 es n)
 unfolding no6
 fair-no6 es n =
-    fair-then (atFault Edits (lowest (badEdit es n) (min 64 (length es)))) (refuseIf (ltb 64 (length es)) (Edits 64))
-    (fair-fault Edits (λ _. refl) (lowest (badEdit es n) (min 64 (length es)))) (fair-if (ltb 64 (length es)) (Edits 64) refl)
+    fair-then (atSpot (firstOf (badEdit es n) (min 64 (length es)))) (refuseIf (ltb 64 (length es)) (Edits 64))
+    (fair-spot (firstOf (badEdit es n) (min 64 (length es)))) (fair-if (ltb 64 (length es)) (Edits 64) refl)
 
 fair-no7 : (ms : List ℕ) → Fair (no7 ms)
 unfolding no7

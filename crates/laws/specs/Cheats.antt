@@ -3,36 +3,22 @@ use mathlib.Core.Path.{_≡_, refl, ap, _∙_}
 use mathlib.Core.Bool.{Bool, true, false}
 use mathlib.Core.List.{[], _∷_}
 use Prim.Native.Nat.{ℕ}
-use lib.Ieee.{ofBits, toBits, binary32, add, sub, mul, div, lt, le, eq, neg}
-use Rattle.geometry.specs.Geometry.{zeroF, sumAxes, plus}
-use Rattle.limits.specs.Limits.{sameF, tooLarge}
-use Rattle.util.specs.Math.{larger, smaller, capped, floored, clamped}
-use Rattle.util.specs.Maybe.{unwrapOr, orZero, orElse, isSome, addOpt, subOpt, clampOpt, floorOpt, ratioWidth, ratioHeight, ratioFills, addSize}
+use lib.ListN.{getD}
+use lib.Ieee.{ofBits, toBits, binary32}
+use Rattle.geometry.specs.Geometry.{zeroF}
 use Rattle.util.specs.declared.OptionF32.the-variants.{None, Some}
-use Rattle.length.specs.Length.{scaled, resolved, resolvedOrZero, isAuto, resolvedRect, resolvedSize}
-use Rattle.length.specs.Available.{availableLess, definite}
 use Rattle.length.specs.declared.AvailableSpace.the-variants.{MaxContent}
-use Rattle.style.specs.Codes.{kindOf, positionOf, overflowOf, overflowXY, alignOf, unitOf, lengthOf, ratioOf}
-use Rattle.style.specs.Style.{wordAt, numberAt, lengthAt, sizeAt, rectAt, measureAt, styleAt}
-use Rattle.margin.specs.Margin.{noMargins, setOf, joined, joinedWith, sumOf}
-use Rattle.alignment.specs.Align.{alignShift}
-use Rattle.tree.specs.Tree.{Tree, Forest, node, none, more, countT, flatT, mapT, rootT, onRoot}
+use Rattle.style.specs.Codes.{kindOf}
+use Rattle.style.specs.Style.{wordAt, styleAt}
+use Rattle.tree.specs.Tree.{Tree, Forest, node, none, more, mapT, rootT}
 use Rattle.tree.proofs.Laws.{map-mapT}
-use Rattle.tree.specs.Table.{from, parseF, parseT}
-use Rattle.steps.specs.Sizing.{heightBasis, boxSize, sizedBy, stepA, decided, knownAxis, stepB, filled, stepD, knownOf, barOf, gutter, insets, contentBasis}
-use Rattle.style.specs.Flow.{positioned, flowBy, flowOf, isLeaf, isIn}
-use Rattle.steps.specs.Width.{sideMargins, outerOf, outerWidth, wantBy, wantSized, wantIn, wantOf, contentWidth, leafWidth}
-use Rattle.steps.specs.Context.{clips, isNormal, newContext, plainBlock}
-use Rattle.steps.specs.Through.{openBox, hollowBox, stepN, passedOut, outputOf, finished, leafOutput}
-use Rattle.steps.specs.Edges.{basisAgain, adjoins, ownEndOf, stepI, frameBy, frameOf}
-use Rattle.steps.specs.Stack.{innerWidth, startOf, negOpt, offsetX, relativeOffset, offsetBy, itemOf, askedWidth, askedHeight, childInput, questionTo, topMargins, bottomMargins, atTop, gapOf, freeOf, shareOf, placeX, placeY, placeOf, pastThrough, pastBox, stepped, lineOf, edgesOf, pastAside, pastHidden}
-use Rattle.steps.specs.Height.{extraOf, stepK, stepL, heldOpen, stillOwnEnd, stepM}
-use Rattle.steps.specs.Row.{isLaid, isOut, availableKind, probeCode, noProbe, probeNote, probeOf, withCode, noted, bare, noRow, hiddenRow, asideRow, laidRow, outputIn, putAt, lowered, Row}
-use Rattle.steps.specs.Page.{Site, Cell, named, anyT, siteAt, cellAt, pageOf, cellsOf, blank, cleared, staying, probedAnew, edits}
-use Rattle.steps.specs.Probe as probe
-use Rattle.steps.specs.Kept.{finalStands, editedNode, kept, keptRow, laidBits, belowRow, zerosT, zerosF, fixT, keep, Laid}
-use Rattle.steps.specs.Layout.{lowerF, alignF, leafLaid, blockLaid, skip, aside, place, layT, askT, relaid, fresh}
-use Rattle.steps.specs.Results.{rowsOut, marksOut}
+use Rattle.style.specs.Flow.{isLeaf}
+use Rattle.steps.specs.Row.{noRow, outputIn, Row}
+use Rattle.steps.specs.Page.{Site, Cell}
+use Rattle.steps.proofs.Computed.{steps}
+use Rattle.steps.specs.Kept.{Laid}
+use Rattle.steps.specs.Layout.{relaid, fresh}
+use Rattle.steps.specs.Results.{marksOut}
 use Rattle.steps.specs.declared.LayoutInput.{LayoutInput}
 use native.Mathlib.Omega.{arith}
 use Rattle.style.specs.declared.Style.{Style}
@@ -72,7 +58,7 @@ abbrev grown : Tree Both
 grown = node (record { node = 0; now = high 0x41a00000; was = high 0x41200000; old = boxRow; edit = true }) none
 
 box-rows : mapT oldOf grown ≡ fresh (mapT wasSite grown) asked .rows
-unfolding sumAxes plus sameF tooLarge larger smaller capped floored clamped unwrapOr orZero orElse isSome addOpt subOpt clampOpt floorOpt ratioWidth ratioHeight ratioFills addSize scaled resolved resolvedOrZero isAuto resolvedRect resolvedSize availableLess definite kindOf positionOf overflowOf overflowXY alignOf unitOf lengthOf ratioOf wordAt numberAt lengthAt sizeAt rectAt measureAt styleAt noMargins setOf joined joinedWith sumOf alignShift countT flatT mapT rootT onRoot from parseF parseT heightBasis boxSize sizedBy stepA decided knownAxis stepB filled stepD knownOf barOf gutter insets contentBasis positioned flowBy flowOf isLeaf sideMargins outerOf outerWidth wantBy wantSized wantIn wantOf contentWidth leafWidth basisAgain clips isNormal newContext isIn plainBlock adjoins openBox hollowBox ownEndOf stepI frameBy frameOf innerWidth startOf negOpt offsetX relativeOffset offsetBy itemOf askedWidth askedHeight childInput questionTo topMargins bottomMargins atTop gapOf freeOf shareOf placeX placeY placeOf pastThrough pastBox stepped lineOf edgesOf pastAside pastHidden extraOf stepK stepL heldOpen stillOwnEnd stepM stepN passedOut outputOf finished leafOutput isLaid isOut availableKind probeCode noProbe probeNote probeOf withCode noted bare noRow hiddenRow asideRow laidRow outputIn putAt lowered named anyT siteAt cellAt pageOf cellsOf blank cleared staying probedAnew edits finalStands editedNode kept keptRow laidBits belowRow zerosT zerosF fixT keep lowerF alignF leafLaid blockLaid skip aside place layT askT relaid fresh rowsOut marksOut probe.probeStands probe.answered probe.probeKnown probe.spaceIn probe.foundWidth probe.asked probe.blockProbe probe.stay probe.widen probe.probeT probe.askP probe.passBy probe.widthPass ofBits toBits add sub mul div lt le eq neg
+unfolding steps
 box-rows = refl
 
 box-honest : AllT Honest grown
@@ -88,24 +74,20 @@ abbrev pub doesNothing : Relayout
 doesNothing c q = record { out = outputIn (rootT c .old); rows = mapT (λ (x : Cell). x .old) c }
 
 pub doing-nothing-fails : FirstHalf doesNothing → ⊥
-unfolding sumAxes plus sameF tooLarge larger smaller capped floored clamped unwrapOr orZero orElse isSome addOpt subOpt clampOpt floorOpt ratioWidth ratioHeight ratioFills addSize scaled resolved resolvedOrZero isAuto resolvedRect resolvedSize availableLess definite kindOf positionOf overflowOf overflowXY alignOf unitOf lengthOf ratioOf wordAt numberAt lengthAt sizeAt rectAt measureAt styleAt noMargins setOf joined joinedWith sumOf alignShift countT flatT mapT rootT onRoot from parseF parseT heightBasis boxSize sizedBy stepA decided knownAxis stepB filled stepD knownOf barOf gutter insets contentBasis positioned flowBy flowOf isLeaf sideMargins outerOf outerWidth wantBy wantSized wantIn wantOf contentWidth leafWidth basisAgain clips isNormal newContext isIn plainBlock adjoins openBox hollowBox ownEndOf stepI frameBy frameOf innerWidth startOf negOpt offsetX relativeOffset offsetBy itemOf askedWidth askedHeight childInput questionTo topMargins bottomMargins atTop gapOf freeOf shareOf placeX placeY placeOf pastThrough pastBox stepped lineOf edgesOf pastAside pastHidden extraOf stepK stepL heldOpen stillOwnEnd stepM stepN passedOut outputOf finished leafOutput isLaid isOut availableKind probeCode noProbe probeNote probeOf withCode noted bare noRow hiddenRow asideRow laidRow outputIn putAt lowered named anyT siteAt cellAt pageOf cellsOf blank cleared staying probedAnew edits finalStands editedNode kept keptRow laidBits belowRow zerosT zerosF fixT keep lowerF alignF leafLaid blockLaid skip aside place layT askT relaid fresh rowsOut marksOut probe.probeStands probe.answered probe.probeKnown probe.spaceIn probe.foundWidth probe.asked probe.blockProbe probe.stay probe.widen probe.probeT probe.askP probe.passBy probe.widthPass ofBits toBits add sub mul div lt le eq neg
+unfolding steps
 doing-nothing-fails h =
     let z : _≡_ {A = ℕ} 0x41200000 0x41a00000 = ap (λ (l : Laid). toBits binary32 (rootT (l .rows) .answer .size .height)) (h grown asked asked box-rows box-honest box-leaves) in
     omega arith
 
--- One that is right the first time only: it has to leave a sign in the rows, and the rows are promised.
-abbrev signed : Row → Row
-signed r =
-    record { place = r .place; answer = r .answer; asked = r .asked; probe = r .probe; spare = record { first = r .spare .first; second = ofBits binary32 0x3f800000 }; order = r .order; bits = r .bits }
+-- One that is right the first time only: there is none. `ChainBy r`: rows that came from a layout by relayouts of r, each given what demand 3 asks.
+pub data ChainBy (r : Relayout) : Tree Site → LayoutInput → Tree Row → Type 0 where
+  laid-first : (t : Tree Site) (q : LayoutInput) → ChainBy r t q (fresh t q .rows)
+  laid-then : (t : Tree Both) (q p : LayoutInput) → ChainBy r (mapT wasSite t) q (mapT oldOf t) → AllT Honest t → LeavesT (mapT nowSite t) → ChainBy r (mapT nowSite t) p (r (mapT again t) p .rows)
 
-abbrev pub once : Relayout
-once c q = record { out = relaid c q .out; rows = onRoot signed (relaid c q .rows) }
-
-pub once-fails : FirstHalf once → ⊥
-unfolding sumAxes plus sameF tooLarge larger smaller capped floored clamped unwrapOr orZero orElse isSome addOpt subOpt clampOpt floorOpt ratioWidth ratioHeight ratioFills addSize scaled resolved resolvedOrZero isAuto resolvedRect resolvedSize availableLess definite kindOf positionOf overflowOf overflowXY alignOf unitOf lengthOf ratioOf wordAt numberAt lengthAt sizeAt rectAt measureAt styleAt noMargins setOf joined joinedWith sumOf alignShift countT flatT mapT rootT onRoot from parseF parseT heightBasis boxSize sizedBy stepA decided knownAxis stepB filled stepD knownOf barOf gutter insets contentBasis positioned flowBy flowOf isLeaf sideMargins outerOf outerWidth wantBy wantSized wantIn wantOf contentWidth leafWidth basisAgain clips isNormal newContext isIn plainBlock adjoins openBox hollowBox ownEndOf stepI frameBy frameOf innerWidth startOf negOpt offsetX relativeOffset offsetBy itemOf askedWidth askedHeight childInput questionTo topMargins bottomMargins atTop gapOf freeOf shareOf placeX placeY placeOf pastThrough pastBox stepped lineOf edgesOf pastAside pastHidden extraOf stepK stepL heldOpen stillOwnEnd stepM stepN passedOut outputOf finished leafOutput isLaid isOut availableKind probeCode noProbe probeNote probeOf withCode noted bare noRow hiddenRow asideRow laidRow outputIn putAt lowered named anyT siteAt cellAt pageOf cellsOf blank cleared staying probedAnew edits finalStands editedNode kept keptRow laidBits belowRow zerosT zerosF fixT keep lowerF alignF leafLaid blockLaid skip aside place layT askT relaid fresh rowsOut marksOut probe.probeStands probe.answered probe.probeKnown probe.spaceIn probe.foundWidth probe.asked probe.blockProbe probe.stay probe.widen probe.probeT probe.askP probe.passBy probe.widthPass ofBits toBits add sub mul div lt le eq neg
-once-fails h =
-    let z : _≡_ {A = ℕ} 0x3f800000 0 = ap (λ (l : Laid). toBits binary32 (rootT (l .rows) .spare .second)) (h grown asked asked box-rows box-honest box-leaves) in
-    omega arith
+-- whatever has the first half leaves fresh rows along every chain
+pub right-every-time : (r : Relayout) → FirstHalf r → (t : Tree Site) (q : LayoutInput) (rows : Tree Row) → ChainBy r t q rows → rows ≡ fresh t q .rows
+right-every-time r h _ _ _ (laid-first t q) = refl
+right-every-time r h _ _ _ (laid-then t q p before honest leaves) = ap (λ (l : Laid). l .rows) (h t q p (right-every-time r h _ q _ before) honest leaves)
 
 -- One that lays all out afresh has the first half, and not the second.
 abbrev pub laysAfresh : Relayout
@@ -127,7 +109,7 @@ abbrev pages : Tree Two
 pages = twin wrap wrap noRow false (more (twin wrap wrap keptOld false (more (twin (high 0x40a00000) (high 0x40c00000) noRow true none) none)) none)
 
 pages-below : mapT belowOf pages ≡ belowKept (mapT page1 pages) asked
-unfolding sumAxes plus sameF tooLarge larger smaller capped floored clamped unwrapOr orZero orElse isSome addOpt subOpt clampOpt floorOpt ratioWidth ratioHeight ratioFills addSize scaled resolved resolvedOrZero isAuto resolvedRect resolvedSize availableLess definite kindOf positionOf overflowOf overflowXY alignOf unitOf lengthOf ratioOf wordAt numberAt lengthAt sizeAt rectAt measureAt styleAt noMargins setOf joined joinedWith sumOf alignShift countT flatT mapT rootT onRoot from parseF parseT heightBasis boxSize sizedBy stepA decided knownAxis stepB filled stepD knownOf barOf gutter insets contentBasis positioned flowBy flowOf isLeaf sideMargins outerOf outerWidth wantBy wantSized wantIn wantOf contentWidth leafWidth basisAgain clips isNormal newContext isIn plainBlock adjoins openBox hollowBox ownEndOf stepI frameBy frameOf innerWidth startOf negOpt offsetX relativeOffset offsetBy itemOf askedWidth askedHeight childInput questionTo topMargins bottomMargins atTop gapOf freeOf shareOf placeX placeY placeOf pastThrough pastBox stepped lineOf edgesOf pastAside pastHidden extraOf stepK stepL heldOpen stillOwnEnd stepM stepN passedOut outputOf finished leafOutput isLaid isOut availableKind probeCode noProbe probeNote probeOf withCode noted bare noRow hiddenRow asideRow laidRow outputIn putAt lowered named anyT siteAt cellAt pageOf cellsOf blank cleared staying probedAnew edits finalStands editedNode kept keptRow laidBits belowRow zerosT zerosF fixT keep lowerF alignF leafLaid blockLaid skip aside place layT askT relaid fresh rowsOut marksOut probe.probeStands probe.answered probe.probeKnown probe.spaceIn probe.foundWidth probe.asked probe.blockProbe probe.stay probe.widen probe.probeT probe.askP probe.passBy probe.widthPass ofBits toBits add sub mul div lt le eq neg under belowT belowKept
+unfolding steps under belowT belowKept
 pages-below = refl
 
 pages-agree : AllT Agree pages
@@ -138,7 +120,7 @@ pages-agree = (
 )
 
 pub laying-afresh-fails : SecondHalf laysAfresh → ⊥
-unfolding sumAxes plus sameF tooLarge larger smaller capped floored clamped unwrapOr orZero orElse isSome addOpt subOpt clampOpt floorOpt ratioWidth ratioHeight ratioFills addSize scaled resolved resolvedOrZero isAuto resolvedRect resolvedSize availableLess definite kindOf positionOf overflowOf overflowXY alignOf unitOf lengthOf ratioOf wordAt numberAt lengthAt sizeAt rectAt measureAt styleAt noMargins setOf joined joinedWith sumOf alignShift countT flatT mapT rootT onRoot from parseF parseT heightBasis boxSize sizedBy stepA decided knownAxis stepB filled stepD knownOf barOf gutter insets contentBasis positioned flowBy flowOf isLeaf sideMargins outerOf outerWidth wantBy wantSized wantIn wantOf contentWidth leafWidth basisAgain clips isNormal newContext isIn plainBlock adjoins openBox hollowBox ownEndOf stepI frameBy frameOf innerWidth startOf negOpt offsetX relativeOffset offsetBy itemOf askedWidth askedHeight childInput questionTo topMargins bottomMargins atTop gapOf freeOf shareOf placeX placeY placeOf pastThrough pastBox stepped lineOf edgesOf pastAside pastHidden extraOf stepK stepL heldOpen stillOwnEnd stepM stepN passedOut outputOf finished leafOutput isLaid isOut availableKind probeCode noProbe probeNote probeOf withCode noted bare noRow hiddenRow asideRow laidRow outputIn putAt lowered named anyT siteAt cellAt pageOf cellsOf blank cleared staying probedAnew edits finalStands editedNode kept keptRow laidBits belowRow zerosT zerosF fixT keep lowerF alignF leafLaid blockLaid skip aside place layT askT relaid fresh rowsOut marksOut probe.probeStands probe.answered probe.probeKnown probe.spaceIn probe.foundWidth probe.asked probe.blockProbe probe.stay probe.widen probe.probeT probe.askP probe.passBy probe.widthPass ofBits toBits add sub mul div lt le eq neg
+unfolding steps
 laying-afresh-fails h =
     let z : _≡_ {A = ℕ} 0x40a00000 0x40c00000 = ap (λ (l : Laid). toBits binary32 (rootT (l .rows) .answer .size .height)) (h pages asked pages-below pages-agree) in
     omega arith
@@ -155,7 +137,7 @@ unkept-agree = (
 )
 
 pub below-laid-is-read : ((t : Tree Two) (q : LayoutInput) → AllT Agree t → relaid (mapT page1 t) q ≡ relaid (mapT page2 t) q) → ⊥
-unfolding sumAxes plus sameF tooLarge larger smaller capped floored clamped unwrapOr orZero orElse isSome addOpt subOpt clampOpt floorOpt ratioWidth ratioHeight ratioFills addSize scaled resolved resolvedOrZero isAuto resolvedRect resolvedSize availableLess definite kindOf positionOf overflowOf overflowXY alignOf unitOf lengthOf ratioOf wordAt numberAt lengthAt sizeAt rectAt measureAt styleAt noMargins setOf joined joinedWith sumOf alignShift countT flatT mapT rootT onRoot from parseF parseT heightBasis boxSize sizedBy stepA decided knownAxis stepB filled stepD knownOf barOf gutter insets contentBasis positioned flowBy flowOf isLeaf sideMargins outerOf outerWidth wantBy wantSized wantIn wantOf contentWidth leafWidth basisAgain clips isNormal newContext isIn plainBlock adjoins openBox hollowBox ownEndOf stepI frameBy frameOf innerWidth startOf negOpt offsetX relativeOffset offsetBy itemOf askedWidth askedHeight childInput questionTo topMargins bottomMargins atTop gapOf freeOf shareOf placeX placeY placeOf pastThrough pastBox stepped lineOf edgesOf pastAside pastHidden extraOf stepK stepL heldOpen stillOwnEnd stepM stepN passedOut outputOf finished leafOutput isLaid isOut availableKind probeCode noProbe probeNote probeOf withCode noted bare noRow hiddenRow asideRow laidRow outputIn putAt lowered named anyT siteAt cellAt pageOf cellsOf blank cleared staying probedAnew edits finalStands editedNode kept keptRow laidBits belowRow zerosT zerosF fixT keep lowerF alignF leafLaid blockLaid skip aside place layT askT relaid fresh rowsOut marksOut probe.probeStands probe.answered probe.probeKnown probe.spaceIn probe.foundWidth probe.asked probe.blockProbe probe.stay probe.widen probe.probeT probe.askP probe.passBy probe.widthPass ofBits toBits add sub mul div lt le eq neg
+unfolding steps
 below-laid-is-read h =
     let z : _≡_ {A = ℕ} 0x40a00000 0x40c00000 = ap (λ (l : Laid). toBits binary32 (rootT (l .rows) .answer .size .height)) (h unkept asked unkept-agree) in
     omega arith
@@ -179,7 +161,7 @@ unnamed =
     none)
 
 unnamed-rows : mapT oldOf unnamed ≡ fresh (mapT wasSite unnamed) asked .rows
-unfolding sumAxes plus sameF tooLarge larger smaller capped floored clamped unwrapOr orZero orElse isSome addOpt subOpt clampOpt floorOpt ratioWidth ratioHeight ratioFills addSize scaled resolved resolvedOrZero isAuto resolvedRect resolvedSize availableLess definite kindOf positionOf overflowOf overflowXY alignOf unitOf lengthOf ratioOf wordAt numberAt lengthAt sizeAt rectAt measureAt styleAt noMargins setOf joined joinedWith sumOf alignShift countT flatT mapT rootT onRoot from parseF parseT heightBasis boxSize sizedBy stepA decided knownAxis stepB filled stepD knownOf barOf gutter insets contentBasis positioned flowBy flowOf isLeaf sideMargins outerOf outerWidth wantBy wantSized wantIn wantOf contentWidth leafWidth basisAgain clips isNormal newContext isIn plainBlock adjoins openBox hollowBox ownEndOf stepI frameBy frameOf innerWidth startOf negOpt offsetX relativeOffset offsetBy itemOf askedWidth askedHeight childInput questionTo topMargins bottomMargins atTop gapOf freeOf shareOf placeX placeY placeOf pastThrough pastBox stepped lineOf edgesOf pastAside pastHidden extraOf stepK stepL heldOpen stillOwnEnd stepM stepN passedOut outputOf finished leafOutput isLaid isOut availableKind probeCode noProbe probeNote probeOf withCode noted bare noRow hiddenRow asideRow laidRow outputIn putAt lowered named anyT siteAt cellAt pageOf cellsOf blank cleared staying probedAnew edits finalStands editedNode kept keptRow laidBits belowRow zerosT zerosF fixT keep lowerF alignF leafLaid blockLaid skip aside place layT askT relaid fresh rowsOut marksOut probe.probeStands probe.answered probe.probeKnown probe.spaceIn probe.foundWidth probe.asked probe.blockProbe probe.stay probe.widen probe.probeT probe.askP probe.passBy probe.widthPass ofBits toBits add sub mul div lt le eq neg
+unfolding steps
 unnamed-rows = refl
 
 unnamed-leaves : LeavesT (mapT nowSite unnamed)
@@ -187,9 +169,71 @@ unfolding LeavesT mapT styleAt wordAt kindOf isLeaf
 unnamed-leaves = ((λ e. false-true false refl e), (((λ e. false-true false refl e), (((λ _. refl), tt), tt)), tt))
 
 pub unnamed-change-is-missed : ((t : Tree Both) (q p : LayoutInput) → mapT oldOf t ≡ fresh (mapT wasSite t) q .rows → LeavesT (mapT nowSite t) → relaid (mapT again t) p ≡ fresh (mapT nowSite t) p) → ⊥
-unfolding sumAxes plus sameF tooLarge larger smaller capped floored clamped unwrapOr orZero orElse isSome addOpt subOpt clampOpt floorOpt ratioWidth ratioHeight ratioFills addSize scaled resolved resolvedOrZero isAuto resolvedRect resolvedSize availableLess definite kindOf positionOf overflowOf overflowXY alignOf unitOf lengthOf ratioOf wordAt numberAt lengthAt sizeAt rectAt measureAt styleAt noMargins setOf joined joinedWith sumOf alignShift countT flatT mapT rootT onRoot from parseF parseT heightBasis boxSize sizedBy stepA decided knownAxis stepB filled stepD knownOf barOf gutter insets contentBasis positioned flowBy flowOf isLeaf sideMargins outerOf outerWidth wantBy wantSized wantIn wantOf contentWidth leafWidth basisAgain clips isNormal newContext isIn plainBlock adjoins openBox hollowBox ownEndOf stepI frameBy frameOf innerWidth startOf negOpt offsetX relativeOffset offsetBy itemOf askedWidth askedHeight childInput questionTo topMargins bottomMargins atTop gapOf freeOf shareOf placeX placeY placeOf pastThrough pastBox stepped lineOf edgesOf pastAside pastHidden extraOf stepK stepL heldOpen stillOwnEnd stepM stepN passedOut outputOf finished leafOutput isLaid isOut availableKind probeCode noProbe probeNote probeOf withCode noted bare noRow hiddenRow asideRow laidRow outputIn putAt lowered named anyT siteAt cellAt pageOf cellsOf blank cleared staying probedAnew edits finalStands editedNode kept keptRow laidBits belowRow zerosT zerosF fixT keep lowerF alignF leafLaid blockLaid skip aside place layT askT relaid fresh rowsOut marksOut probe.probeStands probe.answered probe.probeKnown probe.spaceIn probe.foundWidth probe.asked probe.blockProbe probe.stay probe.widen probe.probeT probe.askP probe.passBy probe.widthPass ofBits toBits add sub mul div lt le eq neg
+unfolding steps
 unnamed-change-is-missed h =
     let z : _≡_ {A = ℕ} 0x40a00000 0x40c00000 = ap (λ (l : Laid). toBits binary32 (rootT (l .rows) .answer .size .height)) (h unnamed asked asked unnamed-rows unnamed-leaves) in
+    omega arith
+
+-- Below a kept node kind is read: a block there, or a hidden node.
+abbrev hidden : Style
+hidden = styleAt (1 ∷ 2 ∷ 0x5500000 ∷ 0x55 ∷ []) 0 [] 0
+
+abbrev aside : Style
+aside = styleAt (1 ∷ 0x20 ∷ 0x5500000 ∷ 0x55 ∷ []) 0 [] 0
+
+-- a kept block over a block in one page, over something else in the other
+abbrev over : Style → Tree Two
+over s = twin wrap wrap noRow false (more (twin wrap wrap keptOld false (more (twin wrap s noRow true none) none)) none)
+
+pub record AgreeButKind (l : Two) : Type 0 where
+  pub style : l .below ≡ false → l .one ≡ l .two
+  pub position : l .one .position ≡ l .two .position
+
+pub record AgreeButPosition (l : Two) : Type 0 where
+  pub style : l .below ≡ false → l .one ≡ l .two
+  pub kind : l .one .kind ≡ l .two .kind
+
+over-below : (s : Style) → mapT belowOf (over s) ≡ belowKept (mapT page1 (over s)) asked
+unfolding steps under belowT belowKept
+over-below s = refl
+
+hidden-agree : AllT AgreeButKind (over hidden)
+unfolding AllT styleAt wordAt
+hidden-agree = (record { style = λ _. refl; position = refl }, ((record { style = λ _. refl; position = refl }, ((record { style = λ e. false-true true e refl; position = refl }, tt), tt)), tt))
+
+aside-agree : AllT AgreeButPosition (over aside)
+unfolding AllT styleAt wordAt
+aside-agree = (record { style = λ _. refl; kind = refl }, ((record { style = λ _. refl; kind = refl }, ((record { style = λ e. false-true true e refl; kind = refl }, tt), tt)), tt))
+
+pub kind-is-read : ((t : Tree Two) (q : LayoutInput) → mapT belowOf t ≡ belowKept (mapT page1 t) q → AllT AgreeButKind t → relaid (mapT page1 t) q ≡ relaid (mapT page2 t) q) → ⊥
+unfolding steps
+kind-is-read h =
+    let z : _≡_ {A = ℕ} 1 0 = ap (λ (l : Laid). getD (marksOut (l .rows)) 5 0) (h (over hidden) asked (over-below hidden) hidden-agree) in
+    omega arith
+
+-- and so is position: a block there, or an out-of-flow one
+pub position-is-read : ((t : Tree Two) (q : LayoutInput) → mapT belowOf t ≡ belowKept (mapT page1 t) q → AllT AgreeButPosition t → relaid (mapT page1 t) q ≡ relaid (mapT page2 t) q) → ⊥
+unfolding steps
+position-is-read h =
+    let z : _≡_ {A = ℕ} 1 4 = ap (λ (l : Laid). getD (marksOut (l .rows)) 5 0) (h (over aside) asked (over-below aside) aside-agree) in
+    omega arith
+
+-- Rows that no layout of the page left are believed: an empty block whose row is that of one with a box of 5 in it.
+abbrev believed : Tree Both
+believed = node (record { node = 0; now = wrap; was = wrap; old = noRow; edit = false }) (more (node (record { node = 1; now = wrap; was = wrap; old = topT (firstBelow nestRows); edit = false }) none) none)
+
+believed-honest : AllT Honest believed
+unfolding AllT
+believed-honest = ((λ _. refl), (((λ _. refl), tt), tt))
+
+believed-leaves : LeavesT (mapT nowSite believed)
+unfolding LeavesT mapT styleAt wordAt kindOf isLeaf
+believed-leaves = ((λ e. false-true false refl e), (((λ _. refl), tt), tt))
+
+pub old-rows-are-believed : ((t : Tree Both) (q p : LayoutInput) → AllT Honest t → LeavesT (mapT nowSite t) → relaid (mapT again t) p ≡ fresh (mapT nowSite t) p) → ⊥
+unfolding steps
+old-rows-are-believed h =
+    let z : _≡_ {A = ℕ} 0x40a00000 0 = ap (λ (l : Laid). toBits binary32 (rootT (l .rows) .answer .size .height)) (h believed asked asked believed-honest believed-leaves) in
     omega arith
 
 -- The relayout of the definition has both.

@@ -4,34 +4,15 @@ use mathlib.Core.Bool.{true, false}
 use mathlib.Core.List.{List, [], _∷_, map}
 use Prim.Native.Nat.{ℕ}
 use lib.ListN.{set, replicate}
-use lib.Ieee.{Float, ofBits, toBits, binary32, add, sub, mul, div, lt, le, eq, neg}
-use Rattle.geometry.specs.Geometry.{sumAxes, plus}
-use Rattle.limits.specs.Limits.{sameF, tooLarge}
-use Rattle.util.specs.Math.{larger, smaller, capped, floored, clamped}
-use Rattle.util.specs.Maybe.{unwrapOr, orZero, orElse, isSome, addOpt, subOpt, clampOpt, floorOpt, ratioWidth, ratioHeight, ratioFills, addSize}
+use lib.Ieee.{Float, ofBits, toBits, binary32}
 use Rattle.util.specs.declared.OptionF32.the-variants.{None, Some}
-use Rattle.length.specs.Length.{scaled, resolved, resolvedOrZero, isAuto, resolvedRect, resolvedSize}
-use Rattle.length.specs.Available.{availableLess, definite}
 use Rattle.length.specs.declared.AvailableSpace.the-variants.{MaxContent}
-use Rattle.style.specs.Codes.{kindOf, positionOf, overflowOf, overflowXY, alignOf, unitOf, lengthOf, ratioOf}
-use Rattle.style.specs.Style.{wordAt, numberAt, lengthAt, sizeAt, rectAt, measureAt, styleAt}
-use Rattle.margin.specs.Margin.{noMargins, setOf, joined, joinedWith, sumOf}
-use Rattle.alignment.specs.Align.{alignShift}
-use Rattle.tree.specs.Tree.{Tree, node, none, more, countT, flatT, mapT, rootT, onRoot}
-use Rattle.tree.specs.Table.{from, parseF, parseT}
-use Rattle.steps.specs.Sizing.{heightBasis, boxSize, sizedBy, stepA, decided, knownAxis, stepB, filled, stepD, knownOf, barOf, gutter, insets, contentBasis}
-use Rattle.style.specs.Flow.{positioned, flowBy, flowOf, isLeaf, isIn}
-use Rattle.steps.specs.Width.{sideMargins, outerOf, outerWidth, wantBy, wantSized, wantIn, wantOf, contentWidth, leafWidth}
-use Rattle.steps.specs.Context.{clips, isNormal, newContext, plainBlock}
-use Rattle.steps.specs.Through.{openBox, hollowBox, stepN, passedOut, outputOf, finished, leafOutput}
-use Rattle.steps.specs.Edges.{basisAgain, adjoins, ownEndOf, stepI, frameBy, frameOf}
-use Rattle.steps.specs.Stack.{innerWidth, startOf, negOpt, offsetX, relativeOffset, offsetBy, itemOf, askedWidth, askedHeight, childInput, questionTo, topMargins, bottomMargins, atTop, gapOf, freeOf, shareOf, placeX, placeY, placeOf, pastThrough, pastBox, stepped, lineOf, edgesOf, pastAside, pastHidden}
-use Rattle.steps.specs.Height.{extraOf, stepK, stepL, heldOpen, stillOwnEnd, stepM}
-use Rattle.steps.specs.Row.{isLaid, isOut, availableKind, probeCode, noProbe, probeNote, probeOf, withCode, noted, bare, noRow, hiddenRow, asideRow, laidRow, outputIn, putAt, lowered}
-use Rattle.steps.specs.Page.{Cell, named, anyT, siteAt, cellAt, pageOf, cellsOf, blank, cleared, staying, probedAnew, edits}
-use Rattle.steps.specs.Probe as probe
-use Rattle.steps.specs.Kept.{finalStands, editedNode, kept, keptRow, laidBits, belowRow, zerosT, zerosF, fixT, keep}
-use Rattle.steps.specs.Layout.{lowerF, alignF, leafLaid, blockLaid, skip, aside, place, layT, askT, relaid, fresh}
+use Rattle.tree.specs.Tree.{Tree, node, none, more}
+use Rattle.tree.specs.Table.{from}
+use Rattle.steps.specs.Page.{Cell, pageOf, cellsOf}
+use Rattle.steps.proofs.Computed.{steps}
+use Rattle.steps.specs.Kept.{kept}
+use Rattle.steps.specs.Layout.{relaid, fresh}
 use Rattle.steps.specs.Results.{rowsOut, marksOut}
 use Rattle.steps.specs.declared.LayoutInput.{LayoutInput}
 use Rattle.laws.specs.Below.{under, belowT, belowKept}
@@ -66,7 +47,7 @@ unfoldable pub stackMarks : List ℕ
 stackMarks = 0 ∷ 1 ∷ 0 ∷ 9 ∷ 1 ∷ 1 ∷ 0 ∷ 9 ∷ []
 
 pub stack-laid : (bitsOf (rowsOut (fresh (pageOf stackWords (floats stackWas) []) wide .rows)) ≡ stackRows) × (marksOut (fresh (pageOf stackWords (floats stackWas) []) wide .rows) ≡ stackMarks)
-unfolding sumAxes plus sameF tooLarge larger smaller capped floored clamped unwrapOr orZero orElse isSome addOpt subOpt clampOpt floorOpt ratioWidth ratioHeight ratioFills addSize scaled resolved resolvedOrZero isAuto resolvedRect resolvedSize availableLess definite kindOf positionOf overflowOf overflowXY alignOf unitOf lengthOf ratioOf wordAt numberAt lengthAt sizeAt rectAt measureAt styleAt noMargins setOf joined joinedWith sumOf alignShift countT flatT mapT rootT onRoot from parseF parseT heightBasis boxSize sizedBy stepA decided knownAxis stepB filled stepD knownOf barOf gutter insets contentBasis positioned flowBy flowOf isLeaf sideMargins outerOf outerWidth wantBy wantSized wantIn wantOf contentWidth leafWidth basisAgain clips isNormal newContext isIn plainBlock adjoins openBox hollowBox ownEndOf stepI frameBy frameOf innerWidth startOf negOpt offsetX relativeOffset offsetBy itemOf askedWidth askedHeight childInput questionTo topMargins bottomMargins atTop gapOf freeOf shareOf placeX placeY placeOf pastThrough pastBox stepped lineOf edgesOf pastAside pastHidden extraOf stepK stepL heldOpen stillOwnEnd stepM stepN passedOut outputOf finished leafOutput isLaid isOut availableKind probeCode noProbe probeNote probeOf withCode noted bare noRow hiddenRow asideRow laidRow outputIn putAt lowered named anyT siteAt cellAt pageOf cellsOf blank cleared staying probedAnew edits finalStands editedNode kept keptRow laidBits belowRow zerosT zerosF fixT keep lowerF alignF leafLaid blockLaid skip aside place layT askT relaid fresh rowsOut marksOut probe.probeStands probe.answered probe.probeKnown probe.spaceIn probe.foundWidth probe.asked probe.blockProbe probe.stay probe.widen probe.probeT probe.askP probe.passBy probe.widthPass ofBits toBits add sub mul div lt le eq neg wide stackWords stackWas stackRows stackMarks
+unfolding steps wide stackWords stackWas stackRows stackMarks
 stack-laid = (refl, refl)
 
 abbrev pub stackCells : Tree Cell
@@ -74,12 +55,12 @@ stackCells = cellsOf stackWords (floats stackNow) (floats stackOdd) stackMarks (
 
 -- C alone lies below a kept node
 pub stack-kept : belowKept stackCells wide ≡ node false (more (node false none) (more (node false (more (node true none) none)) none))
-unfolding sumAxes plus sameF tooLarge larger smaller capped floored clamped unwrapOr orZero orElse isSome addOpt subOpt clampOpt floorOpt ratioWidth ratioHeight ratioFills addSize scaled resolved resolvedOrZero isAuto resolvedRect resolvedSize availableLess definite kindOf positionOf overflowOf overflowXY alignOf unitOf lengthOf ratioOf wordAt numberAt lengthAt sizeAt rectAt measureAt styleAt noMargins setOf joined joinedWith sumOf alignShift countT flatT mapT rootT onRoot from parseF parseT heightBasis boxSize sizedBy stepA decided knownAxis stepB filled stepD knownOf barOf gutter insets contentBasis positioned flowBy flowOf isLeaf sideMargins outerOf outerWidth wantBy wantSized wantIn wantOf contentWidth leafWidth basisAgain clips isNormal newContext isIn plainBlock adjoins openBox hollowBox ownEndOf stepI frameBy frameOf innerWidth startOf negOpt offsetX relativeOffset offsetBy itemOf askedWidth askedHeight childInput questionTo topMargins bottomMargins atTop gapOf freeOf shareOf placeX placeY placeOf pastThrough pastBox stepped lineOf edgesOf pastAside pastHidden extraOf stepK stepL heldOpen stillOwnEnd stepM stepN passedOut outputOf finished leafOutput isLaid isOut availableKind probeCode noProbe probeNote probeOf withCode noted bare noRow hiddenRow asideRow laidRow outputIn putAt lowered named anyT siteAt cellAt pageOf cellsOf blank cleared staying probedAnew edits finalStands editedNode kept keptRow laidBits belowRow zerosT zerosF fixT keep lowerF alignF leafLaid blockLaid skip aside place layT askT relaid fresh rowsOut marksOut probe.probeStands probe.answered probe.probeKnown probe.spaceIn probe.foundWidth probe.asked probe.blockProbe probe.stay probe.widen probe.probeT probe.askP probe.passBy probe.widthPass ofBits toBits add sub mul div lt le eq neg wide stackWords stackWas stackNow stackRows stackOdd stackMarks under belowT belowKept
+unfolding steps wide stackWords stackWas stackNow stackRows stackOdd stackMarks under belowT belowKept
 stack-kept = refl
 
 -- B is at 20 now, and C's row came through as it was
 pub stack-again : (bitsOf (rowsOut (relaid stackCells wide .rows)) ≡ 0 ∷ 0 ∷ 0x42c80000 ∷ 0x41c80000 ∷ 0 ∷ 0 ∷ 0 ∷ 0 ∷ 0x42c80000 ∷ 0 ∷ 0x42c80000 ∷ 0 ∷ 0 ∷ 0 ∷ 0 ∷ 0 ∷ 0 ∷ 0 ∷ 0x42c80000 ∷ 0x41a00000 ∷ 0 ∷ 0 ∷ 0 ∷ 0 ∷ 0x42c80000 ∷ 0x41a00000 ∷ 0x42c80000 ∷ 0 ∷ 0 ∷ 0 ∷ 0 ∷ 0 ∷ 0 ∷ 0x41a00000 ∷ 0x42c80000 ∷ 0x40a00000 ∷ 0 ∷ 0 ∷ 0 ∷ 0 ∷ 0x42c80000 ∷ 0 ∷ 0x42c80000 ∷ 0 ∷ 0 ∷ 0 ∷ 0 ∷ 0 ∷ 0 ∷ 0 ∷ 0x429a0000 ∷ 0x40a00000 ∷ 0 ∷ 0 ∷ 0 ∷ 0 ∷ 0x42c80000 ∷ 0x40a00000 ∷ 0x42c80000 ∷ 0 ∷ 0 ∷ 0 ∷ 0 ∷ 0 ∷ []) × (marksOut (relaid stackCells wide .rows) ≡ stackMarks)
-unfolding sumAxes plus sameF tooLarge larger smaller capped floored clamped unwrapOr orZero orElse isSome addOpt subOpt clampOpt floorOpt ratioWidth ratioHeight ratioFills addSize scaled resolved resolvedOrZero isAuto resolvedRect resolvedSize availableLess definite kindOf positionOf overflowOf overflowXY alignOf unitOf lengthOf ratioOf wordAt numberAt lengthAt sizeAt rectAt measureAt styleAt noMargins setOf joined joinedWith sumOf alignShift countT flatT mapT rootT onRoot from parseF parseT heightBasis boxSize sizedBy stepA decided knownAxis stepB filled stepD knownOf barOf gutter insets contentBasis positioned flowBy flowOf isLeaf sideMargins outerOf outerWidth wantBy wantSized wantIn wantOf contentWidth leafWidth basisAgain clips isNormal newContext isIn plainBlock adjoins openBox hollowBox ownEndOf stepI frameBy frameOf innerWidth startOf negOpt offsetX relativeOffset offsetBy itemOf askedWidth askedHeight childInput questionTo topMargins bottomMargins atTop gapOf freeOf shareOf placeX placeY placeOf pastThrough pastBox stepped lineOf edgesOf pastAside pastHidden extraOf stepK stepL heldOpen stillOwnEnd stepM stepN passedOut outputOf finished leafOutput isLaid isOut availableKind probeCode noProbe probeNote probeOf withCode noted bare noRow hiddenRow asideRow laidRow outputIn putAt lowered named anyT siteAt cellAt pageOf cellsOf blank cleared staying probedAnew edits finalStands editedNode kept keptRow laidBits belowRow zerosT zerosF fixT keep lowerF alignF leafLaid blockLaid skip aside place layT askT relaid fresh rowsOut marksOut probe.probeStands probe.answered probe.probeKnown probe.spaceIn probe.foundWidth probe.asked probe.blockProbe probe.stay probe.widen probe.probeT probe.askP probe.passBy probe.widthPass ofBits toBits add sub mul div lt le eq neg wide stackWords stackWas stackNow stackRows stackOdd stackMarks
+unfolding steps wide stackWords stackWas stackNow stackRows stackOdd stackMarks
 stack-again = (refl, refl)
 
 -- A root of unknown width over a block A with a leaf of 30 to 40, and a box of width 60. A is probed: 40. The box grows to 80.
@@ -106,18 +87,18 @@ unfoldable pub probeMarks : List ℕ
 probeMarks = 0 ∷ 1 ∷ 0 ∷ 113 ∷ 0 ∷ 113 ∷ 1 ∷ 9 ∷ []
 
 pub probe-laid : (bitsOf (rowsOut (fresh (pageOf probeWords (floats probeWas) []) free .rows)) ≡ probeRows) × (marksOut (fresh (pageOf probeWords (floats probeWas) []) free .rows) ≡ probeMarks)
-unfolding sumAxes plus sameF tooLarge larger smaller capped floored clamped unwrapOr orZero orElse isSome addOpt subOpt clampOpt floorOpt ratioWidth ratioHeight ratioFills addSize scaled resolved resolvedOrZero isAuto resolvedRect resolvedSize availableLess definite kindOf positionOf overflowOf overflowXY alignOf unitOf lengthOf ratioOf wordAt numberAt lengthAt sizeAt rectAt measureAt styleAt noMargins setOf joined joinedWith sumOf alignShift countT flatT mapT rootT onRoot from parseF parseT heightBasis boxSize sizedBy stepA decided knownAxis stepB filled stepD knownOf barOf gutter insets contentBasis positioned flowBy flowOf isLeaf sideMargins outerOf outerWidth wantBy wantSized wantIn wantOf contentWidth leafWidth basisAgain clips isNormal newContext isIn plainBlock adjoins openBox hollowBox ownEndOf stepI frameBy frameOf innerWidth startOf negOpt offsetX relativeOffset offsetBy itemOf askedWidth askedHeight childInput questionTo topMargins bottomMargins atTop gapOf freeOf shareOf placeX placeY placeOf pastThrough pastBox stepped lineOf edgesOf pastAside pastHidden extraOf stepK stepL heldOpen stillOwnEnd stepM stepN passedOut outputOf finished leafOutput isLaid isOut availableKind probeCode noProbe probeNote probeOf withCode noted bare noRow hiddenRow asideRow laidRow outputIn putAt lowered named anyT siteAt cellAt pageOf cellsOf blank cleared staying probedAnew edits finalStands editedNode kept keptRow laidBits belowRow zerosT zerosF fixT keep lowerF alignF leafLaid blockLaid skip aside place layT askT relaid fresh rowsOut marksOut probe.probeStands probe.answered probe.probeKnown probe.spaceIn probe.foundWidth probe.asked probe.blockProbe probe.stay probe.widen probe.probeT probe.askP probe.passBy probe.widthPass ofBits toBits add sub mul div lt le eq neg free probeWords probeWas probeRows probeMarks
+unfolding steps free probeWords probeWas probeRows probeMarks
 probe-laid = (refl, refl)
 
 abbrev pub probeCells : Tree Cell
 probeCells = cellsOf probeWords (floats probeNow) (floats probeOdd) probeMarks (3 ∷ [])
 
--- no node lies below a kept one
-pub probe-kept : belowKept probeCells free ≡ node false (more (node false (more (node false none) none)) (more (node false none) none))
-unfolding sumAxes plus sameF tooLarge larger smaller capped floored clamped unwrapOr orZero orElse isSome addOpt subOpt clampOpt floorOpt ratioWidth ratioHeight ratioFills addSize scaled resolved resolvedOrZero isAuto resolvedRect resolvedSize availableLess definite kindOf positionOf overflowOf overflowXY alignOf unitOf lengthOf ratioOf wordAt numberAt lengthAt sizeAt rectAt measureAt styleAt noMargins setOf joined joinedWith sumOf alignShift countT flatT mapT rootT onRoot from parseF parseT heightBasis boxSize sizedBy stepA decided knownAxis stepB filled stepD knownOf barOf gutter insets contentBasis positioned flowBy flowOf isLeaf sideMargins outerOf outerWidth wantBy wantSized wantIn wantOf contentWidth leafWidth basisAgain clips isNormal newContext isIn plainBlock adjoins openBox hollowBox ownEndOf stepI frameBy frameOf innerWidth startOf negOpt offsetX relativeOffset offsetBy itemOf askedWidth askedHeight childInput questionTo topMargins bottomMargins atTop gapOf freeOf shareOf placeX placeY placeOf pastThrough pastBox stepped lineOf edgesOf pastAside pastHidden extraOf stepK stepL heldOpen stillOwnEnd stepM stepN passedOut outputOf finished leafOutput isLaid isOut availableKind probeCode noProbe probeNote probeOf withCode noted bare noRow hiddenRow asideRow laidRow outputIn putAt lowered named anyT siteAt cellAt pageOf cellsOf blank cleared staying probedAnew edits finalStands editedNode kept keptRow laidBits belowRow zerosT zerosF fixT keep lowerF alignF leafLaid blockLaid skip aside place layT askT relaid fresh rowsOut marksOut probe.probeStands probe.answered probe.probeKnown probe.spaceIn probe.foundWidth probe.asked probe.blockProbe probe.stay probe.widen probe.probeT probe.askP probe.passBy probe.widthPass ofBits toBits add sub mul div lt le eq neg free probeWords probeWas probeNow probeRows probeOdd probeMarks under belowT belowKept
-probe-kept = refl
+-- nothing is kept: no node lies below a kept one, though a probe stands
+pub probe-keeps-nothing : belowKept probeCells free ≡ node false (more (node false (more (node false none) none)) (more (node false none) none))
+unfolding steps free probeWords probeWas probeNow probeRows probeOdd probeMarks under belowT belowKept
+probe-keeps-nothing = refl
 
 -- the page is 90 wide: A's probe was answered from its row; A itself and its leaf are laid out anew, at 90 (the box's auto margins share what is left)
 pub probe-again : (bitsOf (rowsOut (relaid probeCells free .rows)) ≡ 0 ∷ 0 ∷ 0x42b40000 ∷ 0x41880000 ∷ 0 ∷ 0 ∷ 0 ∷ 0 ∷ 0 ∷ 0 ∷ 0x42c80000 ∷ 0 ∷ 0 ∷ 0 ∷ 0 ∷ 0 ∷ 0 ∷ 0 ∷ 0x42b40000 ∷ 0x40e00000 ∷ 0 ∷ 0 ∷ 0 ∷ 0 ∷ 0x42b40000 ∷ 0 ∷ 0x42b40000 ∷ 0 ∷ 0 ∷ 0x42b40000 ∷ 0 ∷ 0 ∷ 0 ∷ 0 ∷ 0x42b40000 ∷ 0x40e00000 ∷ 0 ∷ 0 ∷ 0 ∷ 0 ∷ 0x42b40000 ∷ 0 ∷ 0x42b40000 ∷ 0 ∷ 0 ∷ 0x42200000 ∷ 0 ∷ 0 ∷ 0x40a00000 ∷ 0x40e00000 ∷ 0x42a00000 ∷ 0x41200000 ∷ 0 ∷ 0 ∷ 0 ∷ 0 ∷ 0x42a00000 ∷ 0x41200000 ∷ 0x42b40000 ∷ 0 ∷ 0 ∷ 0 ∷ 0 ∷ 0 ∷ []) × (marksOut (relaid probeCells free .rows) ≡ probeMarks)
-unfolding sumAxes plus sameF tooLarge larger smaller capped floored clamped unwrapOr orZero orElse isSome addOpt subOpt clampOpt floorOpt ratioWidth ratioHeight ratioFills addSize scaled resolved resolvedOrZero isAuto resolvedRect resolvedSize availableLess definite kindOf positionOf overflowOf overflowXY alignOf unitOf lengthOf ratioOf wordAt numberAt lengthAt sizeAt rectAt measureAt styleAt noMargins setOf joined joinedWith sumOf alignShift countT flatT mapT rootT onRoot from parseF parseT heightBasis boxSize sizedBy stepA decided knownAxis stepB filled stepD knownOf barOf gutter insets contentBasis positioned flowBy flowOf isLeaf sideMargins outerOf outerWidth wantBy wantSized wantIn wantOf contentWidth leafWidth basisAgain clips isNormal newContext isIn plainBlock adjoins openBox hollowBox ownEndOf stepI frameBy frameOf innerWidth startOf negOpt offsetX relativeOffset offsetBy itemOf askedWidth askedHeight childInput questionTo topMargins bottomMargins atTop gapOf freeOf shareOf placeX placeY placeOf pastThrough pastBox stepped lineOf edgesOf pastAside pastHidden extraOf stepK stepL heldOpen stillOwnEnd stepM stepN passedOut outputOf finished leafOutput isLaid isOut availableKind probeCode noProbe probeNote probeOf withCode noted bare noRow hiddenRow asideRow laidRow outputIn putAt lowered named anyT siteAt cellAt pageOf cellsOf blank cleared staying probedAnew edits finalStands editedNode kept keptRow laidBits belowRow zerosT zerosF fixT keep lowerF alignF leafLaid blockLaid skip aside place layT askT relaid fresh rowsOut marksOut probe.probeStands probe.answered probe.probeKnown probe.spaceIn probe.foundWidth probe.asked probe.blockProbe probe.stay probe.widen probe.probeT probe.askP probe.passBy probe.widthPass ofBits toBits add sub mul div lt le eq neg free probeWords probeWas probeNow probeRows probeOdd probeMarks
+unfolding steps free probeWords probeWas probeNow probeRows probeOdd probeMarks
 probe-again = (refl, refl)

@@ -79,11 +79,11 @@ outs-on : (f : Row → Row) → ((r : Row) → f r .bits ≡ r .bits) → (t : T
 unfolding outsT onRoot isLaid isOut
 outs-on f h (node r ks) = rw (h r)
 
-low-bits : (d : Float) (r : Row) → lowered d r .bits ≡ r .bits
+pub low-bits : (d : Float) (r : Row) → lowered d r .bits ≡ r .bits
 unfolding lowered
 low-bits d r = refl
 
-put-bits : (p : Point) (n : ℕ) (r : Row) → putAt p n r .bits ≡ r .bits
+pub put-bits : (p : Point) (n : ℕ) (r : Row) → putAt p n r .bits ≡ r .bits
 unfolding putAt
 put-bits p n r = refl
 
@@ -120,7 +120,7 @@ unfolding onRoot zerosT mapT
 on-zeros r (node a ks) n h = h _
 
 -- bit 0 of kept rows, and of rows below them
-kept-laid : (l : Node) → isLaid (l .old) ≡ true → isLaid (keptRow l) ≡ true
+pub kept-laid : (l : Node) → isLaid (l .old) ≡ true → isLaid (keptRow l) ≡ true
 unfolding isLaid keptRow noted withCode
 kept-laid l e =
     let b : ℕ = l .old .bits in
@@ -128,7 +128,7 @@ kept-laid l e =
     let z : (b % 16 + 16 * c + 256 * (b / 256)) / 1 % 2 ≡ b / 1 % 2 = omega arith in
     ap (λ (n : ℕ). eqb n 1) z ∙ e
 
-below-laid : (l : Node) → isLaid (belowRow l) ≡ true
+pub below-laid : (l : Node) → isLaid (belowRow l) ≡ true
 unfolding isLaid belowRow noted laidBits
 below-laid l =
     let b : ℕ = l .old .bits in
@@ -140,7 +140,7 @@ stands-laid : (q : LayoutInput) (r : Row) → finalStands q r ≡ true → isLai
 unfolding finalStands
 stands-laid q r e = and-fst _ _ e
 
-kept-old : (t : Tree Node) (q : LayoutInput) → kept t q ≡ true → isLaid (rootT t .old) ≡ true
+pub kept-old : (t : Tree Node) (q : LayoutInput) → kept t q ≡ true → isLaid (rootT t .old) ≡ true
 unfolding kept
 kept-old t q e = stands-laid q _ (and-snd (not (rootT t .anew)) _ (and-snd (not (anyT editedNode t)) _ e))
 

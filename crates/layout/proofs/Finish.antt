@@ -12,7 +12,7 @@ use Rattle.tree.specs.Tree.{Tree, Forest, node, none, more, countT, countF, fla
 use Rattle.tree.proofs.Laws.{countT-node, countF-none, countF-more, length-flatT}
 use Rattle.steps.specs.Row.{Row, isLaid, isOut}
 use Rattle.steps.specs.Scan.{lowest}
-use Rattle.steps.specs.Noes.{badRow}
+use Rattle.steps.specs.Noes.{paper, badRow}
 use Rattle.steps.specs.Candidates.{Candidate, candidateWords, candidateNumbers, candidateOf, movedBy, candidatesAt, candidates, candidatesT, candidatesF}
 use Rattle.steps.specs.Results.{rowsOut, marksOut, listed, onFront, accepted, overLimit, replied}
 use Rattle.steps.specs.declared.Answer.the-variants.{Done, TooLarge}
@@ -52,7 +52,7 @@ pub too-large : (ws : List ℕ) (rs : List Float) (ms : List ℕ) (pairs : List 
     → rs′ ≡ replicate (length rs) zeroF → ms′ ≡ replicate (length ms) 0 → Finishes ws rs ms pairs triples (TooLarge i) rs′ ms′ pairs triples
 unfolding overLimit
 too-large ws rs ms pairs triples found i rs′ ms′ e k hr hm t h room =
-    rw (replied-at ws rs ms pairs triples found (At i) t h e k) (record { answer-is = refl; rows-are = hr; marks-are = hm; words-are = refl; numbers-are = refl })
+    rw (replied-at ws rs ms pairs triples found (At i) t h e k) (record { answer-is = refl; paper-is = refl; rows-are = hr; marks-are = hm; words-are = refl; numbers-are = refl })
 
 front-of : {B : Type 0} (f : Candidate → List B) (k : ℕ) → ((c : Candidate) → length (f c) ≡ k) → (l : List Candidate) (lent : List B) → listed f l ++ drop (k * length l) lent ≡ onFront (listed f l) lent
 unfolding onFront
@@ -64,6 +64,7 @@ unfolding accepted
 gathered ws rs ms pairs triples n pairs′ triples′ t h f =
     record {
       answer-is = ap Done (f .count);
+      paper-is = ap (λ (k : ℕ). paper (Done k)) (f .count);
       rows-are = h .rows-are ∙ sym (rows-out t);
       marks-are = h .marks-are ∙ sym (marks-out t);
       words-are = f .pairs-are ∙ front-of candidateWords 2 (λ _. refl) (candidates t) pairs;

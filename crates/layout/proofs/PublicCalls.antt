@@ -111,7 +111,7 @@ module _ (ws : List ℕ) (xs rs : List Float) (ms cw : List ℕ) (cx : List Floa
 -- ---- by the tests
 refused : (t : Tested) (b : Answer) (r : Reply) (rs : List Float) (ms cw : List ℕ) (cx : List Float) → t ≡ Refuse b → Replied (tested t r rs ms cw cx) b rs ms cw cx
 unfolding tested
-refused t b r rs ms cw cx e = rw e (record { answer-is = refl; rows-are = refl; marks-are = refl; words-are = refl; numbers-are = refl })
+refused t b r rs ms cw cx e = rw e (record { answer-is = refl; paper-is = refl; rows-are = refl; marks-are = refl; words-are = refl; numbers-are = refl })
 
 passed : (t : Tested) (r : Reply) (rs : List Float) (ms cw : List ℕ) (cx : List Float) → t ≡ Pass → tested t r rs ms cw cx ≡ r
 unfolding tested

@@ -1,4 +1,4 @@
--- What the public calls promise: the answer and every word of lent memory are the definition's.
+-- What the public calls promise: the answer, by its number and place too, and every word of lent memory are the definition's.
 use mathlib.Core.Path.{_≡_}
 use mathlib.Core.Bool.{false}
 use mathlib.Core.List.{List}
@@ -12,12 +12,14 @@ use Rattle.steps.specs.Layout.{relaid}
 use Rattle.steps.specs.Candidates.{candidates, needed}
 use Rattle.steps.specs.declared.LayoutInput.{LayoutInput}
 use Rattle.walks.specs.Tables.{TabledT}
+use Rattle.steps.specs.Noes.{paper}
 use Rattle.steps.specs.Results.{Reply, replied}
 use Rattle.steps.specs.declared.Answer.{Answer}
 use Rattle.candidates.specs.Gathered.{RowsOfT, RoomFor}
 
 pub record Replied (want : Reply) (answer : Answer) (rows : List Float) (marks : List ℕ) (pairs : List ℕ) (triples : List Float) : Type 0 where
   pub answer-is : answer ≡ want .answer
+  pub paper-is : paper answer ≡ paper (want .answer)
   pub rows-are : rows ≡ want .rows
   pub marks-are : marks ≡ want .marks
   pub words-are : pairs ≡ want .words

@@ -5,11 +5,14 @@ ghost use lib.ListN.{length};
 ghost use Rattle.steps.specs.Scan.{lowest};
 ghost use Rattle.steps.specs.Noes.{badRow};
 ghost use Rattle.layout.specs.Public.{Replied, IsPage, Finishes, IsCells, Relays};
+ghost use Rattle.steps.specs.Question.{rootInput};
 ghost use Rattle.steps.specs.Results.{layoutResult, relayoutResult};
 use steps::Answer;
 use steps::Found;
 use steps::LayoutInput;
+use steps::Question;
 use steps::Tested;
+use steps::root_input;
 use tree::NodeId;
 
 // Is one of the numbers 0-13 of row i too large?
@@ -87,8 +90,8 @@ fn relay(
     finish_page(words, rows, marks, pairs, triples)
 }
 
-// A fresh layout of a page: the rows and candidates, or a refusal.
-pub fn layout(
+// A layout, for any question that a node may be asked.
+fn lay_afresh(
     words: &[u32],
     numbers: &[f32],
     rows: &mut [f32],
@@ -110,8 +113,8 @@ pub fn layout(
     }
 }
 
-// A relayout from the rows as they are lent: kept rows, laid rows and candidates, or a refusal.
-pub fn relayout(
+// The same from the rows as they are lent.
+fn lay_again(
     words: &[u32],
     numbers: &[f32],
     rows: &mut [f32],
@@ -128,4 +131,44 @@ pub fn relayout(
         Tested::Refuse(a) => a,
         Tested::Pass => relay(words, numbers, rows, marks, edits, pairs, triples, q),
     }
+}
+
+// A fresh layout of a page: the rows and candidates, or a refusal.
+pub fn layout(
+    words: &[u32],
+    numbers: &[f32],
+    rows: &mut [f32],
+    marks: &mut [u32],
+    pairs: &mut [u32],
+    triples: &mut [f32],
+    q: Question,
+) -> Answer
+    ensures { λ r. ⌜ Replied (layoutResult (now (words .entry)) (now (numbers .entry)) (now (rows .entry)) (now (marks .entry)) (now (pairs .entry)) (now (triples .entry)) (rootInput q)) r (now (rows .exit)) (now (marks .exit)) (now (pairs .exit)) (now (triples .exit)) ⌝ }
+{
+    lay_afresh(words, numbers, rows, marks, pairs, triples, root_input(q))
+}
+
+// A relayout from the rows as they are lent: kept rows, laid rows and candidates, or a refusal.
+pub fn relayout(
+    words: &[u32],
+    numbers: &[f32],
+    rows: &mut [f32],
+    marks: &mut [u32],
+    pairs: &mut [u32],
+    triples: &mut [f32],
+    edits: &[u32],
+    q: Question,
+) -> Answer
+    ensures { λ r. ⌜ Replied (relayoutResult (now (words .entry)) (now (numbers .entry)) (now (rows .entry)) (now (marks .entry)) (now (pairs .entry)) (now (triples .entry)) (now (edits .entry)) (rootInput q)) r (now (rows .exit)) (now (marks .exit)) (now (pairs .exit)) (now (triples .exit)) ⌝ }
+{
+    lay_again(
+        words,
+        numbers,
+        rows,
+        marks,
+        pairs,
+        triples,
+        edits,
+        root_input(q),
+    )
 }

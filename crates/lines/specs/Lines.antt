@@ -114,7 +114,7 @@ flagOf s = cond (eqb (length s) 1) (valueOf 10 1 s) value.Bad
 unfoldable pub flagsOf : Value → Value → FlagsLine
 flagsOf value.Bad b = flags.Bad
 flagsOf (value.Is a) value.Bad = flags.Bad
-flagsOf (value.Is a) (value.Is b) = flags.Is (record { start = eqb a 1; end = eqb b 1 })
+flagsOf (value.Is a) (value.Is b) = flags.Is (record { collapseStart = eqb a 1; collapseEnd = eqb b 1 })
 
 -- lines= and two flags
 unfoldable pub flagsText : List ℕ → FlagsLine

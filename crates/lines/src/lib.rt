@@ -30,8 +30,8 @@ pub enum AvailLine {
 
 // The two flags of lines=.
 pub struct Flags {
-    pub start: bool,
-    pub end: bool,
+    pub collapseStart: bool,
+    pub collapseEnd: bool,
 }
 
 // lines=
@@ -215,8 +215,8 @@ fn flags_of(a: Value, b: Value) -> FlagsLine
         Value::Is(a) => match b {
             Value::Bad => FlagsLine::Bad,
             Value::Is(b) => FlagsLine::Is(Flags {
-                start: a == 1,
-                end: b == 1,
+                collapseStart: a == 1,
+                collapseEnd: b == 1,
             }),
         },
     }

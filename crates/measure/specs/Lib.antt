@@ -1,2 +1,3 @@
 pub mod Dry
 pub mod Contract
+pub mod Public

@@ -2,7 +2,9 @@
 ghost use mathlib.Core.Path.{_≡_};
 ghost use Rattle.steps.specs.Stack.{Counts};
 ghost use Rattle.steps.specs.SizeQuestion.{axes};
+ghost use Rattle.steps.specs.Question.{rootInput};
 ghost use Rattle.steps.specs.Results.{sizeReply, sizeResult};
+ghost use Rattle.measure.specs.Public.{SizeReplied};
 ghost use Rattle.measure.specs.Contract.{IsTree, IsForest, Width, Widened, Widest, Measured, Passed, Stacked, Found, Whole, Rest, KnownWidth, SizeOf};
 use geometry::Size;
 use length::AvailableSpace;
@@ -12,10 +14,12 @@ use steps::Frame;
 use steps::LayoutInput;
 use steps::LayoutOutput;
 use steps::ProbeInput;
+use steps::Question;
 use steps::RequestedAxis;
 use steps::SizeAnswer;
 use steps::Tested;
 use steps::Want;
+use steps::root_input;
 use style::Flow;
 use tree::NodeId;
 use util::OptionF32;
@@ -268,13 +272,8 @@ fn size_reply(s: Size) -> SizeAnswer
     SizeAnswer::Sized(s)
 }
 
-// The size of a page, or why it is refused. Nothing is asked of what is lent.
-pub fn size_question(
-    words: &[u32],
-    numbers: &[f32],
-    q: LayoutInput,
-    axis: RequestedAxis,
-) -> SizeAnswer
+// The size of a page, or why it is refused, for any question that a node may be asked.
+fn size_or_no(words: &[u32], numbers: &[f32], q: LayoutInput, axis: RequestedAxis) -> SizeAnswer
     ensures { λ r. ⌜ r ≡ sizeResult (now (words .entry)) (now (numbers .entry)) q axis ⌝ }
 {
     if let Tested::Refuse(a) = tables::size_tested(words, numbers, q) {
@@ -282,4 +281,11 @@ pub fn size_question(
     }
     let s = size_of(words, numbers, q, axis);
     size_reply(s)
+}
+
+// The size of a page, or why it is refused. Nothing is asked of what is lent.
+pub fn size_question(words: &[u32], numbers: &[f32], q: Question, axis: RequestedAxis) -> SizeAnswer
+    ensures { λ r. ⌜ SizeReplied (sizeResult (now (words .entry)) (now (numbers .entry)) (rootInput q) axis) r ⌝ }
+{
+    size_or_no(words, numbers, root_input(q), axis)
 }

@@ -7,7 +7,7 @@ use Rattle.util.specs.declared.OptionF32.{OptionF32}
 use Rattle.util.specs.declared.OptionF32.the-variants.{None, Some}
 use Rattle.util.specs.declared.OptionSize.{OptionSize}
 use Rattle.length.specs.declared.AvailableSpace.{AvailableSpace}
-use Rattle.steps.specs.declared.LayoutInput.{LayoutInput}
+use Rattle.steps.specs.declared.Question.{Question}
 use Rattle.text.specs.Pieces.{pieceAt}
 use Rattle.text.specs.declared.Value.{Value}
 use Rattle.text.specs.declared.Value.the-variants as value
@@ -23,8 +23,8 @@ use Rattle.page.specs.declared.HeadLines.{HeadLines}
 use Rattle.page.specs.declared.HeadLines.the-variants.{Bad, Is}
 
 -- the question as written: of a root, with a parent width
-unfoldable pub headQuestion : Float → OptionSize → AvailableSpace → Flags → LayoutInput
-headQuestion p k a f = record { known = k; parent = Some p; available = a; collapseStart = f .start; collapseEnd = f .end; nested = false }
+unfoldable pub headQuestion : Float → OptionSize → AvailableSpace → Flags → Question
+headQuestion p k a f = record { known = k; parent = p; available = a; collapseStart = f .collapseStart; collapseEnd = f .collapseEnd }
 
 -- line 5: lines=
 unfoldable pub flagsIn : ℕ → Float → OptionSize → AvailableSpace → FlagsLine → HeadLines

@@ -10,22 +10,21 @@ use lines::AvailLine;
 use lines::Flags;
 use lines::FlagsLine;
 use lines::KnownLine;
-use steps::LayoutInput;
+use steps::Question;
 use text::Value;
 use util::OptionF32;
 use util::OptionSize;
 
 // The question that is written.
-fn question(parent: f32, known: OptionSize, available: AvailableSpace, f: Flags) -> LayoutInput
+fn question(parent: f32, known: OptionSize, available: AvailableSpace, f: Flags) -> Question
     ensures { λ r. ⌜ r ≡ headQuestion parent known available f ⌝ }
 {
-    LayoutInput {
+    Question {
         known,
-        parent: OptionF32::Some(parent),
+        parent,
         available,
-        collapseStart: f.start,
-        collapseEnd: f.end,
-        nested: false,
+        collapseStart: f.collapseStart,
+        collapseEnd: f.collapseEnd,
     }
 }
 

@@ -8,12 +8,13 @@ ghost use lib.ListN.{length};
 ghost use Rattle.page.specs.File.{nodeLimit, pageFile, fileOf, fileFrom, ReadAs, Blank};
 use crate::body::read_body;
 use crate::heading::read_head;
-use steps::LayoutInput;
+use lent::smaller;
+use steps::Question;
 
 // What the first five lines say: how many nodes, and the question.
 pub struct Head {
     pub count: u32,
-    pub question: LayoutInput,
+    pub question: Question,
 }
 
 // The first five lines, or the number of a bad one.
@@ -26,12 +27,6 @@ pub enum HeadLines {
 pub enum PageFile {
     BadLine(usize),
     Page(Head),
-}
-
-fn smaller(a: usize, b: usize) -> usize
-    ensures { λ r. ⌜ r ≡ min a b ⌝ }
-{
-    if a < b { a } else { b }
 }
 
 // How many nodes the lent tables can take, 512 at most.

@@ -6,6 +6,7 @@ use native.Mathlib.Omega.{arith}
 use lib.ListN.{length, take, replicate, length-take, length-replicate}
 use lib.Ieee.{Float}
 use Rattle.geometry.specs.Geometry.{zeroF}
+use Rattle.steps.specs.Question.{rootInput}
 use Rattle.steps.specs.Results.{Reply, layoutResult}
 use Rattle.steps.specs.declared.Answer.{Answer}
 use Rattle.steps.specs.declared.LayoutInput.{LayoutInput}
@@ -41,7 +42,7 @@ pub long : {A : Type 0} (m : ℕ) (z : A) (l : List A) → l ≡ replicate m z �
 long m z l e = ap length e ∙ length-replicate m z
 
 module _ (h : Head) (ws : List ℕ) (xs : List Float) (rs : List Float) (ms ps : List ℕ) (ts : List Float) (few : h .count ≤ 512) (lent : Lent rs ms ps ts) where
-  pub laid-text : replyText (h .count) (layoutResult (take (4 * h .count) ws) (take (27 * h .count) xs) (take (16 * h .count) rs) (take (2 * h .count) ms) (take (2 * h .count) ps) (take (3 * h .count) ts) (h .question)) ≡ laidPageText h ws xs
+  pub laid-text : replyText (h .count) (layoutResult (take (4 * h .count) ws) (take (27 * h .count) xs) (take (16 * h .count) rs) (take (2 * h .count) ms) (take (2 * h .count) ps) (take (3 * h .count) ts) (rootInput (h .question))) ≡ laidPageText h ws xs
   unfolding laidPageText
   laid-text =
       let n = h .count in

@@ -5,6 +5,7 @@ use Prim.Native.Nat.{ℕ, _*_, _≤_}
 use lib.ListN.{length, take, replicate}
 use lib.Ieee.{Float}
 use Rattle.geometry.specs.Geometry.{zeroF}
+use Rattle.steps.specs.Question.{rootInput}
 use Rattle.steps.specs.Results.{Reply, layoutResult}
 use Rattle.page.specs.File.{Read, pageFile}
 use Rattle.page.specs.declared.Head.{Head}
@@ -20,7 +21,7 @@ replyText n r = pageText (r .answer) n (r .rows) (r .marks) (r .words) (r .numbe
 -- a page that was read, laid out in zeroed memory for its nodes and as many records
 unfoldable pub laidPageText : Head → List ℕ → List Float → List ℕ
 laidPageText h ws xs =
-    replyText (h .count) (layoutResult (take (4 * h .count) ws) (take (27 * h .count) xs) (replicate (16 * h .count) zeroF) (replicate (2 * h .count) 0) (replicate (2 * h .count) 0) (replicate (3 * h .count) zeroF) (h .question))
+    replyText (h .count) (layoutResult (take (4 * h .count) ws) (take (27 * h .count) xs) (replicate (16 * h .count) zeroF) (replicate (2 * h .count) 0) (replicate (2 * h .count) 0) (replicate (3 * h .count) zeroF) (rootInput (h .question)))
 
 unfoldable pub fileText : PageFile → List ℕ → List Float → List ℕ
 fileText (BadLine k) ws xs = badText k

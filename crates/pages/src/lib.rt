@@ -3,15 +3,16 @@ ghost use mathlib.Core.Path.{_≡_};
 ghost use Prim.Native.Nat.{_*_, _≤_, _<_};
 ghost use lib.ListN.{length};
 ghost use Rattle.print.specs.Pen.{pen, putAll};
+ghost use Rattle.steps.specs.Question.{rootInput};
 ghost use Rattle.steps.specs.Results.{layoutResult};
 ghost use Rattle.pages.specs.Output.{replyText, laidPageText, fileText, outputText, Lent, Fits, Shown};
 use page::Head;
 use page::PageFile;
-use steps::LayoutInput;
+use steps::Question;
 
 // A layout of tables that are cut to size, and its text.
 fn lay_cut(
-    q: LayoutInput,
+    q: Question,
     n: usize,
     words: &[u32],
     numbers: &[f32],
@@ -22,7 +23,7 @@ fn lay_cut(
     out: &mut [u8],
 ) -> usize
     requires { ⌜ n ≤ 512 ⌝ }
-    ensures { λ r. ⌜ pen (now (out .exit)) r ≡ putAll (replyText n (layoutResult (now (words .entry)) (now (numbers .entry)) (now (rows .entry)) (now (marks .entry)) (now (pairs .entry)) (now (triples .entry)) q)) (pen (now (out .entry)) 0) ⌝ }
+    ensures { λ r. ⌜ pen (now (out .exit)) r ≡ putAll (replyText n (layoutResult (now (words .entry)) (now (numbers .entry)) (now (rows .entry)) (now (marks .entry)) (now (pairs .entry)) (now (triples .entry)) (rootInput q))) (pen (now (out .entry)) 0) ⌝ }
 {
     let answer = layout::layout(words, numbers, rows, marks, pairs, triples, q);
     print::print_answer(out, answer, n, rows, marks, pairs, triples)

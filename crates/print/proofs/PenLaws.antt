@@ -80,11 +80,6 @@ pub each-none : (f : ℕ → List ℕ) (p : Pen) → p ≡ putAll (each f 0) p
 unfolding each
 each-none f p = nothing p
 
-pub getD-any : {A : Type 0} (l : List A) (i : ℕ) (d e : A) → i < length l → getD l i d ≡ getD l i e
-getD-any [] i d e h = absurd (omega arith)
-getD-any (a ∷ l) zero d e h = refl
-getD-any (a ∷ l) (suc i) d e h = getD-any l i d e (omega arith)
-
 within-by : (b : ℕ) (p : Pen) (e : Bool) → ltb (p .at) (length (p .bytes)) ≡ e → p .at ≤ length (p .bytes) → putByte b p .at ≤ length (putByte b p .bytes)
 unfolding putByte
 within-by b p true e h = rw e (rw (length-set (p .bytes) (p .at) b) (omega (arith, ltb-true (p .at) (length (p .bytes)) e)))

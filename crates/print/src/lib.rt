@@ -9,7 +9,11 @@ ghost use Rattle.steps.specs.Row.{rowAt};
 ghost use Rattle.print.specs.Pen.{pen, putAll};
 ghost use Rattle.print.specs.Text.{glyph, decimal, hexText, countText, numberText, boxText, boxAt, each, candidateText, candidateAt, candidateLine, countLine, answerText, acceptedText, pageText, badText};
 ghost use Rattle.steps.specs.Noes.{paper};
+use lent::number_at;
+use lent::word_at;
 use steps::Answer;
+use steps::number_of;
+use steps::place_of;
 
 // One byte, if there is room.
 fn put(out: &mut [u8], at: usize, b: u8) -> usize
@@ -83,24 +87,6 @@ fn put_number(out: &mut [u8], at: usize, x: f32) -> usize
 {
     let a = put(out, at, b',');
     put_hex(out, a, text::bits_of(x) as u64, 8)
-}
-
-fn number_at(xs: &[f32], i: usize) -> f32
-    ensures { λ r. ⌜ r ≡ getD (now (xs .entry)) i zeroF ⌝ }
-{
-    if i < xs.len() {
-        return xs[i];
-    }
-    0.0
-}
-
-fn word_at(ws: &[u32], i: usize) -> u32
-    ensures { λ r. ⌜ r ≡ getD (now (ws .entry)) i 0 ⌝ }
-{
-    if i < ws.len() {
-        return ws[i];
-    }
-    0
 }
 
 // Node, order, x, y, w, h.
@@ -193,40 +179,6 @@ fn put_candidates(out: &mut [u8], at: usize, n: usize, pairs: &[u32], triples: &
         i += 1;
     }
     a
-}
-
-// 01's number of an answer.
-fn number_of(a: Answer) -> u32
-    ensures { λ r. ⌜ r ≡ paper a .0 ⌝ }
-{
-    match a {
-        Answer::Done(_n) => 0,
-        Answer::Lengths => 1,
-        Answer::Tree(_i) => 2,
-        Answer::Codes(_i) => 3,
-        Answer::Numbers(_k) => 4,
-        Answer::Room => 5,
-        Answer::Edits(_k) => 6,
-        Answer::NotLaid => 7,
-        Answer::TooLarge(_i) => 8,
-    }
-}
-
-// Its place, or the count of an accepted one.
-fn place_of(a: Answer) -> u32
-    ensures { λ r. ⌜ r ≡ paper a .1 ⌝ }
-{
-    match a {
-        Answer::Done(n) => n,
-        Answer::Lengths => 0,
-        Answer::Tree(i) => i.0,
-        Answer::Codes(i) => i.0,
-        Answer::Numbers(k) => k,
-        Answer::Room => 0,
-        Answer::Edits(k) => k,
-        Answer::NotLaid => 0,
-        Answer::TooLarge(i) => i.0,
-    }
 }
 
 // A key, one number, a newline.

@@ -60,6 +60,7 @@ module _ (m : ℕ) (rs : List Float) (ms cw : List ℕ) (cx : List Float) where
   replied-whole r a rs′ ms′ cw′ cx′ h =
       record {
         answer-is = h .answer-is;
+        paper-is = h .paper-is;
         rows-are = h .rows-are;
         marks-are = h .marks-are;
         words-are = ap (λ (l : List ℕ). l ++ drop (2 * m) cw) (h .words-are);

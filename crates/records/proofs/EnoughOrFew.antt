@@ -30,7 +30,7 @@ use Rattle.records.proofs.Finish.{Holds, layout-holds, relayout-holds}
 
 -- a reply is what it says
 itself : (r : Reply) → Replied r (r .answer) (r .rows) (r .marks) (r .words) (r .numbers)
-itself r = record { answer-is = refl; rows-are = refl; marks-are = refl; words-are = refl; numbers-are = refl }
+itself r = record { answer-is = refl; paper-is = refl; rows-are = refl; marks-are = refl; words-are = refl; numbers-are = refl }
 
 within-enough : (k need : ℕ) (a : Answer) (r : Reply) (rs : List Float) (ms cw : List ℕ) (cx : List Float) → need ≤ k → within k need a r rs ms cw cx ≡ r
 unfolding within

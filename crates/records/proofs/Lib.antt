@@ -1,4 +1,3 @@
-pub mod Reading
 pub mod Run
 pub mod Refusals
 pub mod Few

@@ -7,10 +7,10 @@ use lib.ListN.{length, getD}
 use lib.Dec.{eqb, ltb}
 use lib.Ieee.{Float}
 use Rattle.style.specs.Codes.{flagAt}
-use Rattle.steps.specs.Scan.{lowest}
+use Rattle.steps.specs.Scan.{lowest, firstOf}
 use Rattle.steps.specs.Page.{nodesIn, pageOf}
 use Rattle.steps.specs.Candidates.{needed}
-use Rattle.steps.specs.Noes.{paper, badTables, badRows, badTree, badCodes, badNumbers, badQuestion, badEdit, recordsIn, refuseIf, andThen, atFault, no2, no3, no4, no5, no6, no7, pageTested, layoutTested, relayoutTested}
+use Rattle.steps.specs.Noes.{paper, badTables, badRows, badTree, badCodes, badNumbers, badQuestion, badEdit, recordsIn, refuseIf, andThen, atFault, atSpot, no2, no3, no4, no5, no6, no7, pageTested, layoutTested, relayoutTested}
 use Rattle.steps.specs.declared.LayoutInput.{LayoutInput}
 use Rattle.steps.specs.declared.Answer.{Answer}
 use Rattle.steps.specs.declared.Answer.the-variants.{Lengths, Tree, Codes, Numbers, Room, Edits, NotLaid}
@@ -18,6 +18,8 @@ use Rattle.steps.specs.declared.Tested.{Tested}
 use Rattle.steps.specs.declared.Tested.the-variants.{Pass, Refuse}
 use Rattle.steps.specs.declared.Found.{Found}
 use Rattle.steps.specs.declared.Found.the-variants.{Nowhere, At}
+use Rattle.steps.specs.declared.Spot.{Spot}
+use Rattle.steps.specs.declared.Spot.the-variants as spot
 
 -- an answer that is no 0
 abbrev pub No : Answer → Type 0
@@ -39,6 +41,11 @@ fault-refuses : (f : ℕ → Answer) → ((i : ℕ) → No (f i)) → (x : Found
 unfolding atFault
 fault-refuses f h Nowhere = tt
 fault-refuses f h (At i) = h (i .0)
+
+spot-refuses : (x : Spot) → Refuses (atSpot x)
+unfolding atSpot paper
+spot-refuses spot.Nowhere = tt
+spot-refuses (spot.At k) = refl
 
 pub then-refuses : (t u : Tested) → Refuses t → Refuses u → Refuses (andThen t u)
 unfolding andThen
@@ -69,4 +76,4 @@ pub relayout-refuses : (ws : List ℕ) (xs rs : List Float) (ms cw : List ℕ) (
 unfolding relayoutTested no6 no7 paper
 relayout-refuses ws xs rs ms cw cx es q =
     then-refuses _ _ (layout-refuses ws xs rs ms cw cx q)
-    (then-refuses _ _ (then-refuses _ _ (fault-refuses Edits (λ i. refl) (lowest (badEdit es (nodesIn ws)) (min 64 (length es)))) (if-refuses (ltb 64 (length es)) (Edits 64) refl)) (if-refuses (not (flagAt (getD ms 1 0) 0)) NotLaid refl))
+    (then-refuses _ _ (then-refuses _ _ (spot-refuses (firstOf (badEdit es (nodesIn ws)) (min 64 (length es)))) (if-refuses (ltb 64 (length es)) (Edits 64) refl)) (if-refuses (not (flagAt (getD ms 1 0) 0)) NotLaid refl))

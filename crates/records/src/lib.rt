@@ -4,11 +4,15 @@ ghost use mathlib.Core.List.{_++_};
 ghost use Prim.Native.Nat.{_<_, _≤_, _^_, min};
 ghost use lib.ListN.{length, drop, getD};
 ghost use Rattle.geometry.specs.Geometry.{zeroF};
+ghost use Rattle.steps.specs.Question.{rootInput};
 ghost use Rattle.layout.specs.Public.{Replied};
 ghost use Rattle.records.specs.Records.{recordAt, recordsFrom, countOf};
 ghost use Rattle.records.specs.Results.{layoutWithin, relayoutWithin, RecordsReplied, layoutRecordsResult, relayoutRecordsResult};
+use lent::number_at;
+use lent::smaller;
+use lent::word_at;
 use steps::Answer;
-use steps::LayoutInput;
+use steps::Question;
 use tree::NodeId;
 use tree::Order;
 
@@ -21,31 +25,17 @@ pub struct Record {
     pub line: f32,
 }
 
-// A word of the plain slice, and 0 past its end.
-fn word(pairs: &[u32], at: usize) -> u32
-    ensures { λ r. ⌜ r ≡ getD (now (pairs .entry)) at 0 ⌝ }
-{
-    if at < pairs.len() { pairs[at] } else { 0 }
-}
-
-// A number of the plain slice, and 0 past its end.
-fn number(triples: &[f32], at: usize) -> f32
-    ensures { λ r. ⌜ r ≡ getD (now (triples .entry)) at zeroF ⌝ }
-{
-    if at < triples.len() { triples[at] } else { 0.0 }
-}
-
 // Record k of the plain slices; the bound on k keeps its places from wrapping.
 fn record_at(pairs: &[u32], triples: &[f32], k: usize) -> Record
     requires { ⌜ k < 2 ^ 59 ⌝ }
     ensures { λ r. ⌜ r ≡ recordAt (now (pairs .entry)) (now (triples .entry)) k ⌝ }
 {
     Record {
-        node: NodeId(word(pairs, k * 2)),
-        order: Order(word(pairs, k * 2 + 1)),
-        start: number(triples, k * 3),
-        end: number(triples, k * 3 + 1),
-        line: number(triples, k * 3 + 2),
+        node: NodeId(word_at(pairs, k * 2)),
+        order: Order(word_at(pairs, k * 2 + 1)),
+        start: number_at(triples, k * 3),
+        end: number_at(triples, k * 3 + 1),
+        line: number_at(triples, k * 3 + 2),
     }
 }
 
@@ -59,13 +49,6 @@ fn store_records(out: &mut [Record], pairs: &[u32], triples: &[f32], n: usize)
         out[k] = record_at(pairs, triples, k);
         k += 1;
     }
-}
-
-// The smaller of two counts.
-fn least(a: usize, b: usize) -> usize
-    ensures { λ r. ⌜ r ≡ min a b ⌝ }
-{
-    if a < b { a } else { b }
 }
 
 // How many records an answer comes with: none with a refusal.
@@ -88,11 +71,11 @@ fn layout_within(
     pairs: &mut [u32],
     triples: &mut [f32],
     k: usize,
-    q: LayoutInput,
+    q: Question,
 ) -> Answer
-    ensures { λ r. ⌜ Replied (layoutWithin (now (words .entry)) (now (numbers .entry)) (now (rows .entry)) (now (marks .entry)) (now (pairs .entry)) (now (triples .entry)) k q) r (now (rows .exit)) (now (marks .exit)) (now (pairs .exit)) (now (triples .exit)) ⌝ }
+    ensures { λ r. ⌜ Replied (layoutWithin (now (words .entry)) (now (numbers .entry)) (now (rows .entry)) (now (marks .entry)) (now (pairs .entry)) (now (triples .entry)) k (rootInput q)) r (now (rows .exit)) (now (marks .exit)) (now (pairs .exit)) (now (triples .exit)) ⌝ }
 {
-    let m = least(k, least(pairs.len() / 2, triples.len() / 3));
+    let m = smaller(k, smaller(pairs.len() / 2, triples.len() / 3));
     let m2 = 2 * m;
     let m3 = 3 * m;
     layout::layout(
@@ -116,11 +99,11 @@ fn relayout_within(
     triples: &mut [f32],
     k: usize,
     edits: &[u32],
-    q: LayoutInput,
+    q: Question,
 ) -> Answer
-    ensures { λ r. ⌜ Replied (relayoutWithin (now (words .entry)) (now (numbers .entry)) (now (rows .entry)) (now (marks .entry)) (now (pairs .entry)) (now (triples .entry)) k (now (edits .entry)) q) r (now (rows .exit)) (now (marks .exit)) (now (pairs .exit)) (now (triples .exit)) ⌝ }
+    ensures { λ r. ⌜ Replied (relayoutWithin (now (words .entry)) (now (numbers .entry)) (now (rows .entry)) (now (marks .entry)) (now (pairs .entry)) (now (triples .entry)) k (now (edits .entry)) (rootInput q)) r (now (rows .exit)) (now (marks .exit)) (now (pairs .exit)) (now (triples .exit)) ⌝ }
 {
-    let m = least(k, least(pairs.len() / 2, triples.len() / 3));
+    let m = smaller(k, smaller(pairs.len() / 2, triples.len() / 3));
     let m2 = 2 * m;
     let m3 = 3 * m;
     layout::relayout(
@@ -144,9 +127,9 @@ pub fn layout_records(
     pairs: &mut [u32],
     triples: &mut [f32],
     records: &mut [Record],
-    q: LayoutInput,
+    q: Question,
 ) -> Answer
-    ensures { λ r. ⌜ RecordsReplied (layoutRecordsResult (now (words .entry)) (now (numbers .entry)) (now (rows .entry)) (now (marks .entry)) (now (pairs .entry)) (now (triples .entry)) (now (records .entry)) q) r (now (rows .exit)) (now (marks .exit)) (now (pairs .exit)) (now (triples .exit)) (now (records .exit)) ⌝ }
+    ensures { λ r. ⌜ RecordsReplied (layoutRecordsResult (now (words .entry)) (now (numbers .entry)) (now (rows .entry)) (now (marks .entry)) (now (pairs .entry)) (now (triples .entry)) (now (records .entry)) (rootInput q)) r (now (rows .exit)) (now (marks .exit)) (now (pairs .exit)) (now (triples .exit)) (now (records .exit)) ⌝ }
 {
     let a = layout_within(
         words,
@@ -172,9 +155,9 @@ pub fn relayout_records(
     triples: &mut [f32],
     records: &mut [Record],
     edits: &[u32],
-    q: LayoutInput,
+    q: Question,
 ) -> Answer
-    ensures { λ r. ⌜ RecordsReplied (relayoutRecordsResult (now (words .entry)) (now (numbers .entry)) (now (rows .entry)) (now (marks .entry)) (now (pairs .entry)) (now (triples .entry)) (now (records .entry)) (now (edits .entry)) q) r (now (rows .exit)) (now (marks .exit)) (now (pairs .exit)) (now (triples .exit)) (now (records .exit)) ⌝ }
+    ensures { λ r. ⌜ RecordsReplied (relayoutRecordsResult (now (words .entry)) (now (numbers .entry)) (now (rows .entry)) (now (marks .entry)) (now (pairs .entry)) (now (triples .entry)) (now (records .entry)) (now (edits .entry)) (rootInput q)) r (now (rows .exit)) (now (marks .exit)) (now (pairs .exit)) (now (triples .exit)) (now (records .exit)) ⌝ }
 {
     let a = relayout_within(
         words,

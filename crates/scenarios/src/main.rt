@@ -6,55 +6,49 @@ mod show;
 use length::AvailableSpace;
 use page::put;
 use steps::Answer;
-use steps::LayoutInput;
+use steps::Question;
+use steps::number_of;
+use steps::place_of;
 use util::OptionF32;
 use util::OptionSize;
 
 // The page in a frame of that width.
-fn known(width: f32) -> LayoutInput {
+fn known(width: f32) -> Question {
     let known = OptionSize {
         width: OptionF32::Some(width),
         height: OptionF32::None,
     };
-    LayoutInput {
+    Question {
         known,
-        parent: OptionF32::Some(width),
+        parent: width,
         available: AvailableSpace::Definite(width),
         collapseStart: false,
         collapseEnd: false,
-        nested: false,
     }
 }
 
 // The page as wide as its content wants: each child without a width is probed.
-fn unknown(available: AvailableSpace) -> LayoutInput {
+fn unknown(available: AvailableSpace) -> Question {
     let known = OptionSize {
         width: OptionF32::None,
         height: OptionF32::None,
     };
-    LayoutInput {
+    Question {
         known,
-        parent: OptionF32::Some(320.0),
+        parent: 320.0,
         available,
         collapseStart: false,
         collapseEnd: false,
-        nested: false,
     }
 }
 
 // The page as it is before any change, and its layout.
-fn start(
-    words: &mut [u32],
-    numbers: &mut [f32],
-    rows: &mut [f32],
-    marks: &mut [u32],
-    q: LayoutInput,
-) {
+fn start(words: &mut [u32], numbers: &mut [f32], rows: &mut [f32], marks: &mut [u32], q: Question) {
     let mut pairs = [0u32; 4];
     let mut triples = [0.0f32; 6];
     page::fill(words, numbers);
     let a = layout::layout(words, numbers, rows, marks, &mut pairs, &mut triples, q);
-    if same::number(a) != 0 {
+    if number_of(a) != 0 {
         show::text(b"the first layout is refused\n");
     }
 }
@@ -74,7 +68,7 @@ fn compare(
 ) {
     show::refusals(a, b);
     show::nodes(rows, marks, fresh_rows, fresh_marks);
-    show::candidates(same::place(a), pairs, triples, fresh_pairs, fresh_triples);
+    show::candidates(place_of(a), pairs, triples, fresh_pairs, fresh_triples);
     let r = same::numbers(rows, fresh_rows) & same::words(marks, fresh_marks);
     let c = same::words(pairs, fresh_pairs) & same::numbers(triples, fresh_triples);
     if r & c & same::answers(a, b) {
@@ -93,7 +87,7 @@ fn against_fresh(
     marks: &[u32],
     pairs: &[u32],
     triples: &[f32],
-    q: LayoutInput,
+    q: Question,
 ) {
     let mut fresh = [0.0f32; 208];
     let mut fresh_marks = [0u32; 26];
@@ -129,7 +123,7 @@ fn beside(
     rows: &mut [f32],
     marks: &mut [u32],
     edits: &[u32],
-    q: LayoutInput,
+    q: Question,
 ) {
     let mut pairs = [0u32; 4];
     let mut triples = [0.0f32; 6];
@@ -146,7 +140,7 @@ fn beside(
     against_fresh(words, numbers, a, rows, marks, &pairs, &triples, q);
 }
 
-fn no_edit(words: &[u32], numbers: &[f32], rows: &mut [f32], marks: &mut [u32], q: LayoutInput) {
+fn no_edit(words: &[u32], numbers: &[f32], rows: &mut [f32], marks: &mut [u32], q: Question) {
     beside(words, numbers, rows, marks, &words[..0], q);
 }
 
@@ -156,7 +150,7 @@ fn one_edit(
     rows: &mut [f32],
     marks: &mut [u32],
     node: u32,
-    q: LayoutInput,
+    q: Question,
 ) {
     let edits = [node];
     beside(words, numbers, rows, marks, &edits, q);

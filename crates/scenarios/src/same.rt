@@ -2,6 +2,8 @@
 ghost use mathlib.Core.Path.{_≡_};
 ghost use mathlib.Core.Bool.{true};
 use steps::Answer;
+use steps::number_of;
+use steps::place_of;
 
 // By length and by bits; a NaN is the same as nothing.
 pub fn numbers(a: &[f32], b: &[f32]) -> bool
@@ -36,39 +38,9 @@ pub fn words(a: &[u32], b: &[u32]) -> bool
     true
 }
 
-// The number of an answer in document 01's table; 0 is accepted.
-pub fn number(a: Answer) -> u32 {
-    match a {
-        Answer::Done(_) => 0,
-        Answer::Lengths => 1,
-        Answer::Tree(_) => 2,
-        Answer::Codes(_) => 3,
-        Answer::Numbers(_) => 4,
-        Answer::Room => 5,
-        Answer::Edits(_) => 6,
-        Answer::NotLaid => 7,
-        Answer::TooLarge(_) => 8,
-    }
-}
-
-// Its place there, or the count of candidates.
-pub fn place(a: Answer) -> u32 {
-    match a {
-        Answer::Done(n) => n,
-        Answer::Lengths => 0,
-        Answer::Tree(i) => i.0,
-        Answer::Codes(i) => i.0,
-        Answer::Numbers(i) => i,
-        Answer::Room => 0,
-        Answer::Edits(k) => k,
-        Answer::NotLaid => 0,
-        Answer::TooLarge(i) => i.0,
-    }
-}
-
 pub fn answers(a: Answer, b: Answer) -> bool {
-    if number(a) == number(b) {
-        place(a) == place(b)
+    if number_of(a) == number_of(b) {
+        place_of(a) == place_of(b)
     } else {
         false
     }

@@ -4,6 +4,9 @@ use crate::page::RECORDS;
 use crate::same;
 use libc::STDOUT_FILENO;
 use steps::Answer;
+use steps::number_of;
+use steps::place_of;
+use text::bits_of;
 
 pub fn text(t: &[u8]) {
     io::write_all(STDOUT_FILENO, t);
@@ -47,14 +50,6 @@ fn magnitude(bits: u32) {
     }
 }
 
-// A NaN has no bits of its own and is shown by the usual ones.
-fn bits_of(x: f32) -> u32 {
-    if x != x {
-        return 0x7fc0_0000;
-    }
-    f32::to_bits(x)
-}
-
 // Whole pixels in decimal, with the sign of a zero too; any other number by its sign and the bits of the rest.
 fn number(x: f32) {
     let bits = bits_of(x);
@@ -71,15 +66,15 @@ fn number(x: f32) {
 
 fn answer(a: Answer) {
     text(b" ");
-    count(same::number(a));
+    count(number_of(a));
     text(b" ");
-    count(same::place(a));
+    count(place_of(a));
 }
 
 // A line for the numbers and places of two answers, if one of them is a refusal.
 pub fn refusals(a: Answer, b: Answer) {
-    if same::number(a) == 0 {
-        if same::number(b) == 0 {
+    if number_of(a) == 0 {
+        if number_of(b) == 0 {
             return;
         }
     }

@@ -1,3 +1,5 @@
+pub mod Answers
+pub mod Computed
 pub mod Clauses
 pub mod Shape
 pub mod Codes

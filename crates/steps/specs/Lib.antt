@@ -1,5 +1,6 @@
 pub mod Row
 pub mod Page
+pub mod Question
 pub mod Candidates
 pub mod Scan
 pub mod Noes

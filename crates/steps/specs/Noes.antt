@@ -12,7 +12,7 @@ use Rattle.util.specs.declared.OptionF32.the-variants.{None, Some}
 use Rattle.length.specs.Available.{definite}
 use Rattle.style.specs.Codes.{codeAt, clearFrom, flagAt, unitOf}
 use Rattle.style.specs.Style.{wordAt, numberAt}
-use Rattle.steps.specs.Scan.{scan, lowest, some, howMany}
+use Rattle.steps.specs.Scan.{scan, lowest, firstOf, some, howMany}
 use Rattle.steps.specs.Page.{nodesIn, pageOf}
 use Rattle.steps.specs.Candidates.{needed}
 use Rattle.steps.specs.declared.LayoutInput.{LayoutInput}
@@ -22,6 +22,8 @@ use Rattle.steps.specs.declared.Tested.{Tested}
 use Rattle.steps.specs.declared.Tested.the-variants.{Pass, Refuse}
 use Rattle.steps.specs.declared.Found.{Found}
 use Rattle.steps.specs.declared.Found.the-variants.{Nowhere, At}
+use Rattle.steps.specs.declared.Spot.{Spot}
+use Rattle.steps.specs.declared.Spot.the-variants as spot
 
 -- this paper's number and place of each answer
 unfoldable pub paper : Answer → ℕ × ℕ
@@ -153,6 +155,11 @@ unfoldable pub atFault : (ℕ → Answer) → Found → Tested
 atFault a Nowhere = Pass
 atFault a (At i) = Refuse (a (i .0))
 
+-- an edit at fault refuses
+unfoldable pub atSpot : Spot → Tested
+atSpot spot.Nowhere = Pass
+atSpot (spot.At k) = Refuse (Edits k)
+
 -- The tests in order, each with its place.
 unfoldable pub no2 : List ℕ → Tested
 no2 ws = atFault (λ i. Tree (record { 0 = i })) (lowest (badTree ws) (nodesIn ws))
@@ -167,7 +174,7 @@ unfoldable pub no5 : List ℕ → List Float → List ℕ → List Float → Tes
 no5 ws xs cw cx = refuseIf (ltb (recordsIn cw cx) (needed (pageOf ws xs []))) Room
 
 unfoldable pub no6 : List ℕ → ℕ → Tested
-no6 es n = andThen (atFault Edits (lowest (badEdit es n) (min 64 (length es)))) (refuseIf (ltb 64 (length es)) (Edits 64))
+no6 es n = andThen (atSpot (firstOf (badEdit es n) (min 64 (length es)))) (refuseIf (ltb 64 (length es)) (Edits 64))
 
 unfoldable pub no7 : List ℕ → Tested
 no7 ms = refuseIf (not (flagAt (getD ms 1 0) 0)) NotLaid

@@ -3,6 +3,8 @@ use mathlib.Core.Bool.{Bool, true, false, cond, _||_}
 use Prim.Native.Nat.{ℕ, zero, suc, _+_}
 use Rattle.steps.specs.declared.Found.{Found}
 use Rattle.steps.specs.declared.Found.the-variants.{Nowhere, At}
+use Rattle.steps.specs.declared.Spot.{Spot}
+use Rattle.steps.specs.declared.Spot.the-variants as spot
 
 -- from place i on, n places
 unfoldable pub scan : {A : Type 0} → (ℕ → Bool) → (ℕ → A) → A → ℕ → ℕ → A
@@ -15,6 +17,10 @@ atNode i = At (record { 0 = i })
 -- the lowest node below n at fault
 abbrev pub lowest : (ℕ → Bool) → ℕ → Found
 lowest p n = scan p atNode Nowhere 0 n
+
+-- the first index below n at fault
+abbrev pub firstOf : (ℕ → Bool) → ℕ → Spot
+firstOf p n = scan p spot.At spot.Nowhere 0 n
 
 -- some place below n
 abbrev pub some : (ℕ → Bool) → ℕ → Bool

@@ -1,4 +1,7 @@
 // What the steps of document 01 pass on, by value. The steps themselves are definitions: specs/.
+ghost use mathlib.Core.Path.{_≡_};
+ghost use Rattle.steps.specs.Noes.{paper};
+ghost use Rattle.steps.specs.Question.{rootInput};
 use geometry::Point;
 use geometry::Rect;
 use geometry::Size;
@@ -8,6 +11,15 @@ use tree::NodeId;
 use tree::Order;
 use util::OptionF32;
 use util::OptionSize;
+
+// What a caller asks of a page. The parent width is always a number.
+pub struct Question {
+    pub known: OptionSize,
+    pub parent: f32,
+    pub available: AvailableSpace,
+    pub collapseStart: bool,
+    pub collapseEnd: bool,
+}
 
 // A final question. Two flags say which margins may collapse; `nested` is false at the root alone.
 pub struct LayoutInput {
@@ -122,8 +134,64 @@ pub enum Found {
     At(NodeId),
 }
 
+// The first index of a list that is at fault.
+pub enum Spot {
+    Nowhere,
+    At(u32),
+}
+
 // Which size a size question wants.
 pub enum RequestedAxis {
     Horizontal,
     Both,
+}
+
+// A caller's question as the root is asked it.
+pub fn root_input(q: Question) -> LayoutInput
+    ensures { λ r. ⌜ r ≡ rootInput q ⌝ }
+{
+    let known = q.known;
+    let available = q.available;
+    LayoutInput {
+        known,
+        parent: OptionF32::Some(q.parent),
+        available,
+        collapseStart: q.collapseStart,
+        collapseEnd: q.collapseEnd,
+        nested: false,
+    }
+}
+
+// An answer's number on paper.
+pub fn number_of(a: Answer) -> u32
+    ensures { λ r. ⌜ r ≡ paper a .0 ⌝ }
+{
+    match a {
+        Answer::Done(_n) => 0,
+        Answer::Lengths => 1,
+        Answer::Tree(_i) => 2,
+        Answer::Codes(_i) => 3,
+        Answer::Numbers(_k) => 4,
+        Answer::Room => 5,
+        Answer::Edits(_k) => 6,
+        Answer::NotLaid => 7,
+        Answer::TooLarge(_i) => 8,
+    }
+}
+
+// Its place, or the count of an accepted one.
+pub fn place_of(a: Answer) -> u32
+    ensures { λ r. ⌜ r ≡ paper a .1 ⌝ }
+{
+    match a {
+        Answer::Done(n) => n,
+        Answer::Lengths => 0,
+        Answer::Tree(i) => i.0,
+        Answer::Codes(i) => i.0,
+        Answer::Numbers(k) => k,
+        Answer::Room => 0,
+        Answer::Edits(k) => k,
+        Answer::NotLaid => 0,
+        Answer::TooLarge(i) => i.0,
+    }
 }

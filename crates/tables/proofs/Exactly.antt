@@ -10,10 +10,10 @@ use lib.Ieee.{Float}
 use borrow.Author.Tests.{lt-ltb, le-ltb, ltb-true, ltb-false}
 use Rattle.style.specs.Codes.{flagAt}
 use Rattle.tree.specs.declared.NodeId.{NodeId}
-use Rattle.steps.specs.Scan.{lowest}
+use Rattle.steps.specs.Scan.{lowest, firstOf}
 use Rattle.steps.specs.Page.{nodesIn, pageOf}
 use Rattle.steps.specs.Candidates.{needed}
-use Rattle.steps.specs.Noes.{badTables, badTree, badCodes, badNumbers, badQuestion, badEdit, recordsIn, refuseIf, andThen, atFault, no2, no3, no4, no5, no6, no7, pageTested, layoutTested, relayoutTested, sizeTested}
+use Rattle.steps.specs.Noes.{badTables, badTree, badCodes, badNumbers, badQuestion, badEdit, recordsIn, refuseIf, andThen, atFault, atSpot, no2, no3, no4, no5, no6, no7, pageTested, layoutTested, relayoutTested, sizeTested}
 use Rattle.steps.specs.declared.LayoutInput.{LayoutInput}
 use Rattle.steps.specs.declared.Answer.{Answer}
 use Rattle.steps.specs.declared.Answer.the-variants.{Done, Lengths, Tree, Codes, Numbers, Room, Edits, NotLaid, TooLarge}
@@ -21,8 +21,10 @@ use Rattle.steps.specs.declared.Tested.{Tested}
 use Rattle.steps.specs.declared.Tested.the-variants.{Pass, Refuse}
 use Rattle.steps.specs.declared.Found.{Found}
 use Rattle.steps.specs.declared.Found.the-variants.{Nowhere, At}
+use Rattle.steps.specs.declared.Spot.{Spot}
+use Rattle.steps.specs.declared.Spot.the-variants as spot
 use Rattle.tables.specs.Refusals.{Lowest, Sound, NumbersAt, of-node, of-question, EditsAt, of-edit, too-many, PageSound, EditsSound, PageDue, SizeDue, misfit, Scarce, LayoutSound, LayoutRefused, LayoutDue, RelayoutDue}
-use Rattle.tables.proofs.ScanLaws.{lowest-at, at-lowest, lowest-nowhere, nowhere-lowest}
+use Rattle.tables.proofs.ScanLaws.{lowest-at, at-lowest, lowest-nowhere, nowhere-lowest, first-at, at-first, first-nowhere, nowhere-first}
 
 -- one exactly if the other
 pub record Exactly (A B : Type 0) : Type 0 where
@@ -63,16 +65,16 @@ module _ (ws : List ℕ) where
 
 module _ (es : List ℕ) (n : ℕ) where
   edits-fault : (k : ℕ) → EditsAt es n k → no6 es n ≡ Refuse (Edits k)
-  unfolding no6 atFault andThen
-  edits-fault k (of-edit h) = rw (at-lowest (badEdit es n) (min 64 (length es)) k h)
-  edits-fault k (too-many h l p) = rw (nowhere-lowest (badEdit es n) (min 64 (length es)) h, lt-ltb 64 (length es) l, p)
+  unfolding no6 atSpot andThen
+  edits-fault k (of-edit h) = rw (at-first (badEdit es n) (min 64 (length es)) k h)
+  edits-fault k (too-many h l p) = rw (nowhere-first (badEdit es n) (min 64 (length es)) h, lt-ltb 64 (length es) l, p)
 
   edits-pass : EditsSound es n → no6 es n ≡ Pass
-  unfolding no6 atFault andThen
+  unfolding no6 atSpot andThen
   edits-pass h =
       let l = h .few in
       let q : min 64 (length es) ≡ length es = omega arith in
-      rw (q, nowhere-lowest (badEdit es n) (length es) (h .named), le-ltb 64 (length es) l)
+      rw (q, nowhere-first (badEdit es n) (length es) (h .named), le-ltb 64 (length es) l)
 
 -- ---- 2 to 4 after 1, and what follows
 module _ (bad : Bool) (ws : List ℕ) (xs : List Float) (q : LayoutInput) (rest : Tested) where
@@ -220,15 +222,15 @@ module _ (ws : List ℕ) (xs rs : List Float) (ms cw : List ℕ) (cx : List Floa
         let h : length es ≤ 64 = ltb-false 64 (length es) e in
         row-due l (record { named = λ j i. s j (omega arith); few = h })
 
-    by-edits : LayoutSound ws xs rs ms cw cx q → (f : Found) → lowest (badEdit es (nodesIn ws)) (min 64 (length es)) ≡ f
-        → Due (andThen (andThen (atFault Edits f) (refuseIf (ltb 64 (length es)) (Edits 64))) (no7 ms))
-    unfolding andThen atFault
-    by-edits l (At i) e = (l, of-edit (lowest-at (badEdit es (nodesIn ws)) (min 64 (length es)) (i .0) e))
-    by-edits l Nowhere e = by-number l (lowest-nowhere (badEdit es (nodesIn ws)) (min 64 (length es)) e) (ltb 64 (length es)) refl
+    by-edits : LayoutSound ws xs rs ms cw cx q → (f : Spot) → firstOf (badEdit es (nodesIn ws)) (min 64 (length es)) ≡ f
+        → Due (andThen (andThen (atSpot f) (refuseIf (ltb 64 (length es)) (Edits 64))) (no7 ms))
+    unfolding andThen atSpot
+    by-edits l (spot.At k) e = (l, of-edit (first-at (badEdit es (nodesIn ws)) (min 64 (length es)) k e))
+    by-edits l spot.Nowhere e = by-number l (first-nowhere (badEdit es (nodesIn ws)) (min 64 (length es)) e) (ltb 64 (length es)) refl
 
     edits-due : LayoutSound ws xs rs ms cw cx q → Due (andThen (no6 es (nodesIn ws)) (no7 ms))
     unfolding no6
-    edits-due l = by-edits l (lowest (badEdit es (nodesIn ws)) (min 64 (length es))) refl
+    edits-due l = by-edits l (firstOf (badEdit es (nodesIn ws)) (min 64 (length es))) refl
 
     after-layout : (t : Tested) → LayoutDue ws xs rs ms cw cx q t → Due (andThen t (andThen (no6 es (nodesIn ws)) (no7 ms)))
     unfolding andThen

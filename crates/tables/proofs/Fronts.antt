@@ -39,15 +39,15 @@ fine size style room depth e =
     record { has = omega arith; fits = y; deep = omega arith; leaf = or-left (eqb (codeAt style 0) 1 && ltb 1 size) _ b }
 
 module _ (ws : List ℕ) where
-  holds-yes : (i j : ℕ) → i < endAt ws j → holds ws i j ≡ true
+  pub holds-yes : (i j : ℕ) → i < endAt ws j → holds ws i j ≡ true
   unfolding holds
   holds-yes i j h = lt-ltb _ _ h
 
-  holds-no : (i j : ℕ) → endAt ws j ≤ i → holds ws i j ≡ false
+  pub holds-no : (i j : ℕ) → endAt ws j ≤ i → holds ws i j ≡ false
   unfolding holds
   holds-no i j h = le-ltb _ _ h
 
-  holds-true : (i j : ℕ) → holds ws i j ≡ true → i < endAt ws j
+  pub holds-true : (i j : ℕ) → holds ws i j ≡ true → i < endAt ws j
   unfolding holds
   holds-true i j h = ltb-true _ _ h
 

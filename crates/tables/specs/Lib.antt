@@ -2,3 +2,4 @@ pub mod TreeCheck
 pub mod Walk
 pub mod Refusals
 pub mod Leaves
+pub mod Ancestors

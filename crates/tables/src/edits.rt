@@ -2,12 +2,11 @@
 ghost use mathlib.Core.Path.{_≡_};
 ghost use Prim.Native.Nat.{min};
 ghost use lib.ListN.{length};
-ghost use Rattle.steps.specs.Scan.{lowest};
+ghost use Rattle.steps.specs.Scan.{firstOf};
 ghost use Rattle.steps.specs.Noes.{badEdit, no6};
 use steps::Answer;
-use steps::Found;
+use steps::Spot;
 use steps::Tested;
-use tree::NodeId;
 
 // 6: how many of the edits are looked at.
 fn looked_at(n: usize) -> usize
@@ -17,26 +16,26 @@ fn looked_at(n: usize) -> usize
 }
 
 // 6: the first of them that names no node.
-fn first_bad_edit(edits: &[u32], n: usize) -> Found
-    ensures { λ r. ⌜ r ≡ lowest (badEdit (now (edits .entry)) n) (min 64 (length (now (edits .entry)))) ⌝ }
+fn first_bad_edit(edits: &[u32], n: usize) -> Spot
+    ensures { λ r. ⌜ r ≡ firstOf (badEdit (now (edits .entry)) n) (min 64 (length (now (edits .entry)))) ⌝ }
 {
     let most = looked_at(edits.len());
     let mut k = 0;
     while k < most {
         if n <= edits[k] as usize {
-            return Found::At(NodeId(k as u32));
+            return Spot::At(k as u32);
         }
         k += 1;
     }
-    Found::Nowhere
+    Spot::Nowhere
 }
 
 // 6.
 pub(crate) fn edits_tested(edits: &[u32], n: usize) -> Tested
     ensures { λ r. ⌜ r ≡ no6 (now (edits .entry)) n ⌝ }
 {
-    if let Found::At(k) = first_bad_edit(edits, n) {
-        return Tested::Refuse(Answer::Edits(k.0));
+    if let Spot::At(k) = first_bad_edit(edits, n) {
+        return Tested::Refuse(Answer::Edits(k));
     }
     if 64 < edits.len() {
         return Tested::Refuse(Answer::Edits(64));

@@ -3,7 +3,7 @@ ghost use Prim.Native.Nat.{_<_};
 use length::AvailableSpace;
 use libc::STDOUT_FILENO;
 use steps::Answer;
-use steps::LayoutInput;
+use steps::Question;
 use util::OptionF32;
 use util::OptionSize;
 
@@ -38,18 +38,17 @@ fn fill(words: &mut [u32], numbers: &mut [f32]) {
     }
 }
 
-fn question() -> LayoutInput {
+fn question() -> Question {
     let known = OptionSize {
         width: OptionF32::None,
         height: OptionF32::None,
     };
-    LayoutInput {
+    Question {
         known,
-        parent: OptionF32::Some(320.0),
+        parent: 320.0,
         available: AvailableSpace::Definite(320.0),
         collapseStart: false,
         collapseEnd: false,
-        nested: false,
     }
 }
 

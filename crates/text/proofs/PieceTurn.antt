@@ -9,6 +9,7 @@ use native.Mathlib.Omega.{arith}
 use lib.ListN.{length, take, drop, getD, drop-of-length-le, length-drop}
 use lib.Seq.{drop-cons, take-suc, getD-drop}
 use lib.Dec.{eqb}
+use Rattle.text.specs.Laws.{past-none}
 use Rattle.text.specs.Pieces.{bit, longer, split, lessBlank, linesOf, startsWith, upTo, past}
 
 -- the text from place i on is its byte and what follows
@@ -44,11 +45,6 @@ past-cons c k b s false q =
 pub past-step : (c k : ℕ) (s : List ℕ) (i : ℕ) → 0 < k → i < length s → past c k (drop i s) ≡ past c (k - bit (eqb (getD s i 0) c)) (drop (i + 1) s)
 past-step c zero s i h l = absurd (omega arith)
 past-step c (suc k) s i h l = ap (past c (suc k)) (step s i l) ∙ past-cons c k (getD s i 0) (drop (i + 1) s) (eqb (getD s i 0) c) refl
-
-pub past-none : (c k : ℕ) → past c k [] ≡ []
-unfolding past
-past-none c zero = refl
-past-none c (suc k) = refl
 
 pub past-zero : (c : ℕ) (s : List ℕ) → past c 0 s ≡ s
 unfolding past

@@ -37,15 +37,15 @@ unfolding past
 past-by c k b s true q h = rw q
 past-by c k b s false q h = rw q h
 
-none-past : (c k : ℕ) → past c k [] ≡ []
+pub past-none : (c k : ℕ) → past c k [] ≡ []
 unfolding past
-none-past c zero = refl
-none-past c (suc k) = refl
+past-none c zero = refl
+past-none c (suc k) = refl
 
 -- k separators past the first one
 pub past-past : (c k : ℕ) (s : List ℕ) → past c k (past c 1 s) ≡ past c (suc k) s
 unfolding past
-past-past c k [] = none-past c k
+past-past c k [] = past-none c k
 past-past c k (b ∷ s) = past-by c k b s (eqb b c) refl (past-past c k s)
 
 unparted-by : (c k b : ℕ) (s : List ℕ) (e : Bool) → eqb b c ≡ e → (parted c s ≡ false → past c (suc k) s ≡ []) → parted c (b ∷ s) ≡ false → past c (suc k) (b ∷ s) ≡ []

@@ -1,5 +1,6 @@
 use mathlib.Core.Path.{ap}
 use Rattle.steps.specs.Results.{relayoutResult}
+use Rattle.steps.specs.Question.{rootInput}
 use Rattle.face.proofs.Calls.{answered}
 use borrow.Author.Needs.{needs}
 use Rattle.face.proofs.mearrasot_relayout.Statement.{statement}
@@ -27,7 +28,7 @@ same-length-4 : tie.Need-same-length-4
 same-length-4 c = search needs
 
 returns : tie.Need-returns
-returns c = let d = c .before .before .before .before .before .before .before .before .before in answered (ap (relayoutResult _ _ _ _ _ _ _) (d .before .before .before .before .before .question .ensures)) (d .relayout .ensures) (c .packed .ensures)
+returns c = let d = c .before .before .before .before .before .before .before .before .before in answered (ap (relayoutResult _ _ _ _ _ _ _) (ap rootInput (d .before .before .before .before .before .question .ensures))) (d .relayout .ensures) (c .packed .ensures)
 
 pub mearrasot-relayout-spec : {M : Type 1} → statement M
 mearrasot-relayout-spec =

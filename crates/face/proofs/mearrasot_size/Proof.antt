@@ -28,12 +28,12 @@ packed-requires-2 c κs = search needs
 returns : tie.Need-returns
 returns c =
     let d = c .before .before .before .before .before in
-    sized (sym (d .size-question .ensures ∙ asked _ _ (d .before .before .question .ensures) (d .before .axis .ensures)) ∙ c .before .before .before .a .given .1) (c .packed .ensures)
+    sized (sym (d .size-question .ensures .answer-is ∙ asked _ _ (d .before .before .question .ensures) (d .before .axis .ensures)) ∙ c .before .before .before .a .given .1) (c .packed .ensures)
 
 returns-2 : tie.Need-returns-2
 returns-2 c =
     let d = c .before .before .before .before .before in
-    refused (sym (d .size-question .ensures ∙ asked _ _ (d .before .before .question .ensures) (d .before .axis .ensures)) ∙ c .before .before .before .a2 .given .1) (c .packed2 .ensures)
+    refused (sym (d .size-question .ensures .answer-is ∙ asked _ _ (d .before .before .question .ensures) (d .before .axis .ensures)) ∙ c .before .before .before .a2 .given .1) (c .packed2 .ensures)
 
 pub mearrasot-size-spec : {M : Type 1} → statement M
 mearrasot-size-spec =

@@ -7,7 +7,7 @@ use lib.ListN.{getD}
 use lib.Ieee.{nan}
 use Rattle.geometry.specs.Geometry.{zeroF}
 use Rattle.limits.specs.Limits.{tooLarge}
-use Rattle.style.proofs.Reading.{getD-any}
+use Rattle.lent.proofs.Reading.{getD-any}
 use Rattle.steps.specs.Scan.{scan}
 use Rattle.steps.specs.Noes.{badRow}
 use Rattle.tables.proofs.ScanLaws.{pass, here, over, start}

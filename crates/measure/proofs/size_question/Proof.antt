@@ -1,38 +1,19 @@
-use mathlib.Core.Path.{sym, _∙_}
-use Rattle.measure.proofs.PageSize.{page-tree, answered-size, refused-size}
+use mathlib.Core.Path.{ap}
+use Rattle.steps.specs.Results.{sizePaper}
 use borrow.Author.Needs.{needs}
 use Rattle.measure.proofs.size_question.Statement.{statement}
 use Rattle.measure.proofs.size_question.Tie as tie
 
-size-tested-requires : tie.Need-size-tested-requires
-size-tested-requires c κs = search needs
+root-input-requires : tie.Need-root-input-requires
+root-input-requires c κs = search needs
 
-enum-known-a : tie.Need-enum-known-a
-enum-known-a c = search needs
+size-or-no-requires : tie.Need-size-or-no-requires
+size-or-no-requires c κs = search needs
 
 returns : tie.Need-returns
-returns c = refused-size (c .before .before .before .before .before .before .args .words .now) (c .before .before .before .before .before .before .args .numbers .now) (c .before .before .before .before .before .before .args .q) (c .before .before .before .before .before .before .args .axis) _ (sym (c .before .before .before .size-tested .ensures) ∙ c .before .a .given .1)
-
-enum-told : tie.Need-enum-told
-enum-told c = search needs
-
-size-of-requires : tie.Need-size-of-requires
-size-of-requires c κs = page-tree (c .before .before .before .before .before .args .words .now) (c .before .before .before .before .before .args .numbers .now) (c .before .before .before .before .before .args .q) (sym (c .before .before .size-tested .ensures) ∙ c .enum-told .given .1)
-
-size-reply-requires : tie.Need-size-reply-requires
-size-reply-requires c κs = search needs
-
-returns-2 : tie.Need-returns-2
-returns-2 c = answered-size (c .before .before .before .before .before .before .before .args .words .now) (c .before .before .before .before .before .before .before .args .numbers .now) (c .before .before .before .before .before .before .before .args .q) (sym (c .before .before .before .before .size-tested .ensures) ∙ c .before .before .enum-told .given .1) (c .before .before .before .before .before .before .before .args .axis) _ _ (c .before .size-of .ensures) (c .size-reply .ensures)
+returns c =
+    let e = c .size-or-no .ensures in
+    rw (← c .before .root-input .ensures) (record { answer-is = e; paper-is = ap sizePaper e })
 
 pub size-question-spec : {M : Type 1} → statement M
-size-question-spec =
-    tie.close
-    (tie.spec
-    size-tested-requires
-    enum-known-a
-    returns
-    enum-told
-    size-of-requires
-    size-reply-requires
-    returns-2)
+size-question-spec = tie.close (tie.spec root-input-requires size-or-no-requires returns)

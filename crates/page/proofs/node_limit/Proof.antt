@@ -14,7 +14,7 @@ use Rattle.page.proofs.node_limit.Statement.{statement}
 use Rattle.page.proofs.node_limit.Tie as tie
 use Rattle.page.proofs.node_limit.Reads as reads
 use Rattle.page.proofs.node_limit.Lts as lts
-use Rattle.page.proofs.smaller.Reads as smaller-reads
+use Rattle.lent.proofs.smaller.Reads as smaller-reads
 
 smaller-requires : tie.Need-smaller-requires
 smaller-requires c κs = search needs

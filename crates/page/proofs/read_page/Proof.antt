@@ -16,7 +16,7 @@ use Rattle.page.proofs.read_page.Tie as tie
 use Rattle.page.proofs.read_page.Reads as reads
 use Rattle.page.proofs.read_page.Lts as lts
 use Rattle.page.proofs.read_text.Reads as read-text-reads
-use Rattle.page.proofs.smaller.Reads as smaller-reads
+use Rattle.lent.proofs.smaller.Reads as smaller-reads
 
 smaller-requires : tie.Need-smaller-requires
 smaller-requires c κs = search needs

@@ -5,6 +5,7 @@ use Prim.Native.Nat.{ℕ, _+_, _-_, _*_, _≤_, _<_}
 use lib.ListN.{length, take, replicate}
 use denote.Ref.{now}
 use Rattle.print.specs.Pen.{Pen, pen, putAll}
+use Rattle.steps.specs.Question.{rootInput}
 use Rattle.steps.specs.Results.{layoutResult}
 use Rattle.pages.proofs.PageText.{reply-text, cut, cut-long, long, laid-text}
 use borrow.Author.Needs.{needs}
@@ -39,7 +40,7 @@ same-length-5 c = search needs
 returns : tie.Need-returns
 returns c =
     let a = c .before .before .before .before .before .before .before .before .before .before .before .before .before .before .before .before .before .before .before .before .before .before .before .before .before .before .before .before .args in
-    let want = layoutResult (now (a .words)) (now (a .numbers)) (now (a .rows)) (now (a .marks)) (now (a .pairs)) (now (a .triples)) (a .q) in
+    let want = layoutResult (now (a .words)) (now (a .numbers)) (now (a .rows)) (now (a .marks)) (now (a .pairs)) (now (a .triples)) (rootInput (a .q)) in
     c .before .before .print-answer .ensures ∙ ap (λ (t : List ℕ). putAll t (pen (now (a .out)) 0)) (reply-text (a .n) want (c .before .before .before .before .before .before .before .before .before .before .before .before .before .before .before .before .layout .result) (c .before .before .before .before .before .before .before .before .before .before .before .before .before .before .before .before .layout .last .1 .1 .0) (c .before .before .before .before .before .before .before .before .before .before .before .before .before .before .before .before .layout .last .1 .1 .1 .0) (c .before .before .before .before .before .before .before .before .before .before .before .before .before .before .before .before .layout .last .1 .1 .1 .1 .0) (c .before .before .before .before .before .before .before .before .before .before .before .before .before .before .before .before .layout .last .1 .1 .1 .1 .1 .0) (c .before .before .before .before .before .before .before .before .before .before .before .before .before .before .before .before .layout .ensures))
 
 pub lay-cut-spec : {M : Type 1} → statement M

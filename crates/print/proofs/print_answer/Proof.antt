@@ -8,15 +8,15 @@ use borrow.Author.Tests.{lt-ltb, le-ltb, eq-eqb, ne-eqb}
 use denote.Ref.{now}
 use Rattle.print.specs.Pen.{pen, putAll}
 use Rattle.style.specs.Codes.{flagAt}
-use Rattle.print.proofs.PenLaws.{put-append, nothing, then, each-step, each-none, getD-any}
+use Rattle.print.proofs.PenLaws.{put-append, nothing, then, each-step, each-none}
 use Rattle.print.specs.Text.{answerText, acceptedText, pageText}
 use borrow.Author.Needs.{needs}
 use Rattle.print.proofs.print_answer.Statement.{statement}
 use Rattle.print.proofs.print_answer.Tie as tie
 use Rattle.print.proofs.print_answer.Reads as reads
 use Rattle.print.proofs.print_answer.Lts as lts
-use Rattle.print.proofs.number_of.Reads as number-of-reads
-use Rattle.print.proofs.place_of.Reads as place-of-reads
+use Rattle.steps.proofs.number_of.Reads as number-of-reads
+use Rattle.steps.proofs.place_of.Reads as place-of-reads
 use Rattle.print.proofs.put_answer.Reads as put-answer-reads
 use Rattle.print.proofs.put_laid.Reads as put-laid-reads
 

@@ -8,16 +8,16 @@ use borrow.Author.Tests.{lt-ltb, le-ltb}
 use denote.Ref.{now}
 use Rattle.print.specs.Pen.{pen, putAll}
 use Rattle.style.specs.Codes.{flagAt}
-use Rattle.print.proofs.PenLaws.{put-append, nothing, then, each-step, each-none, getD-any}
+use Rattle.print.proofs.PenLaws.{put-append, nothing, then, each-step, each-none}
 use Rattle.print.specs.Text.{candidateAt, candidateLine}
 use borrow.Author.Needs.{needs}
 use Rattle.print.proofs.put_candidate.Statement.{statement}
 use Rattle.print.proofs.put_candidate.Tie as tie
 use Rattle.print.proofs.put_candidate.Reads as reads
 use Rattle.print.proofs.put_candidate.Lts as lts
-use Rattle.print.proofs.number_at.Reads as number-at-reads
+use Rattle.lent.proofs.number_at.Reads as number-at-reads
 use Rattle.print.proofs.put_record.Reads as put-record-reads
-use Rattle.print.proofs.word_at.Reads as word-at-reads
+use Rattle.lent.proofs.word_at.Reads as word-at-reads
 
 mul-word-at : tie.Need-mul-word-at
 mul-word-at c = search needs

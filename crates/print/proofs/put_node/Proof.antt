@@ -8,7 +8,7 @@ use borrow.Author.Tests.{lt-ltb, le-ltb}
 use denote.Ref.{now}
 use Rattle.print.specs.Pen.{pen, putAll}
 use Rattle.style.specs.Codes.{flagAt}
-use Rattle.print.proofs.PenLaws.{put-append, nothing, then, each-step, each-none, getD-any}
+use Rattle.print.proofs.PenLaws.{put-append, nothing, then, each-step, each-none}
 use Rattle.print.specs.Text.{boxOf, boxAt}
 use Rattle.steps.specs.Row.{isLaid}
 use borrow.Author.Needs.{needs}
@@ -16,9 +16,9 @@ use Rattle.print.proofs.put_node.Statement.{statement}
 use Rattle.print.proofs.put_node.Tie as tie
 use Rattle.print.proofs.put_node.Reads as reads
 use Rattle.print.proofs.put_node.Lts as lts
-use Rattle.print.proofs.number_at.Reads as number-at-reads
+use Rattle.lent.proofs.number_at.Reads as number-at-reads
 use Rattle.print.proofs.put_box.Reads as put-box-reads
-use Rattle.print.proofs.word_at.Reads as word-at-reads
+use Rattle.lent.proofs.word_at.Reads as word-at-reads
 use Rattle.style.proofs.flag.Reads as flag-reads
 
 mul-word-at : tie.Need-mul-word-at

@@ -8,7 +8,7 @@ use borrow.Author.Tests.{lt-ltb, le-ltb}
 use denote.Ref.{now}
 use Rattle.print.specs.Pen.{pen, putAll}
 use Rattle.style.specs.Codes.{flagAt}
-use Rattle.print.proofs.PenLaws.{put-append, nothing, then, each-step, each-none, getD-any}
+use Rattle.print.proofs.PenLaws.{put-append, nothing, then, each-step, each-none}
 use Rattle.print.specs.Text.{candidateText}
 use borrow.Author.Needs.{needs}
 use Rattle.print.proofs.put_record.Statement.{statement}

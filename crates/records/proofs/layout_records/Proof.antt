@@ -44,11 +44,12 @@ use denote.Triple.Table.{entered, cited}
 use denote.Triple.Walked.{says, Stays, stay-dropped, gave-slice, walkOf, Walks, ends-at, walked, goes-dropped, goes-gave-slice, walk-meets}
 use Rattle.layout.specs.Public.{Replied}
 use Rattle.steps.specs.declared.Answer.{Answer}
-use Rattle.steps.specs.declared.LayoutInput.{LayoutInput}
+use Rattle.steps.specs.Question.{rootInput}
+use Rattle.steps.specs.declared.Question.{Question}
 use Rattle.steps.proofs.Answer as S
 use Rattle.steps.proofs.Answer.Laws as S′
-use Rattle.steps.proofs.LayoutInput as Q
-use Rattle.steps.proofs.LayoutInput.Laws as Q′
+use Rattle.steps.proofs.Question as Q
+use Rattle.steps.proofs.Question.Laws as Q′
 use Rattle.records.specs.Records.{countOf}
 use Rattle.records.specs.Results.{layoutWithin}
 use Rattle.records.specs.declared.Record.{Record}
@@ -81,7 +82,7 @@ module _ {M : Type 1} (𝓤 : URA M) (H : Heap 𝓤) (A : Atoms 𝓤) (mem : Mem
   Call = tripleOf 𝓤 H A call.signature (call.spec 𝓤 H A mem run)
 
 module _ {M : Type 1} (𝓤 : URA M) (H : Heap 𝓤) (A : Atoms 𝓤) (W : Given 𝓤 H A) (mem : Memory → SProp 𝓤) (run : Routine → Fun 𝓤) (κ₀ κ₁ κ₂ κ₃ κ₄ κ₅ κ₆ : Lft) (q₀ q₁ q₂ q₃ q₄ q₅ q₆ : Share)
-    (x₀ : RefT (List ℕ)) (x₁ : RefT (List Float)) (x₂ : RefT (List Float)) (x₃ : RefT (List ℕ)) (x₄ : RefT (List ℕ)) (x₅ : RefT (List Float)) (x₆ : RefT (List Record)) (q : LayoutInput)
+    (x₀ : RefT (List ℕ)) (x₁ : RefT (List Float)) (x₂ : RefT (List Float)) (x₃ : RefT (List ℕ)) (x₄ : RefT (List ℕ)) (x₅ : RefT (List Float)) (x₆ : RefT (List Record)) (q : Question)
     (room₀ : Room u32 (length (now x₀))) (room₁ : Room f32 (length (now x₁))) (room₂ : Room f32 (length (now x₂))) (room₃ : Room u32 (length (now x₃))) (room₄ : Room u32 (length (now x₄)))
     (room₅ : Room f32 (length (now x₅))) (room₆ : Room T.the-row (length (now x₆))) (gq : Is Q.the-row q (LL.val Q.the-type Q′.the-laws q ∷ [])) where
   abbrev mq : Val
@@ -175,7 +176,7 @@ module _ {M : Type 1} (𝓤 : URA M) (H : Heap 𝓤) (A : Atoms 𝓤) (W : Given
 
   -- what the first call says
   abbrev Said : Answer → List Float → List ℕ → List ℕ → List Float → Type 0
-  Said = Replied (layoutWithin (now x₀) (now x₁) (now x₂) (now x₃) (now x₄) (now x₅) (length (now x₆)) q)
+  Said = Replied (layoutWithin (now x₀) (now x₁) (now x₂) (now x₃) (now x₄) (now x₅) (length (now x₆)) (rootInput q))
 
   -- what is known of what it leaves
   abbrev Told : Left → Type 0
@@ -226,7 +227,7 @@ module _ {M : Type 1} (𝓤 : URA M) (H : Heap 𝓤) (A : Atoms 𝓤) (W : Given
       qed W (raw (After 𝓤 H A lent out) ∷ raw (Aside l) ∷ []) ∵
       suffices ! _ (ends-at 𝓤 H A f.ended stayed (f.clauses 𝓤 H A mem run) W bound u (l .answer) (tt, (tt, (l .rows, (l .marks, (l .pairs, (l .triples, (out, (tt, tt))))))))
       (tt, (tt, (told .1 .0, (told .1 .1 .0, (told .1 .1 .1 .0, (told .1 .1 .1 .1, (st .1 .1, (tt, tt))))))))) $
-      says ! (layout-records-done (now x₀) (now x₁) (now x₂) (now x₃) (now x₄) (now x₅) (now x₆) q (l .answer) (l .rows) (l .marks) (l .pairs) (l .triples) n out (told .0) e (st .1 .0)) $
+      says ! (layout-records-done (now x₀) (now x₁) (now x₂) (now x₃) (now x₄) (now x₅) (now x₆) (rootInput q) (l .answer) (l .rows) (l .marks) (l .pairs) (l .triples) n out (told .0) e (st .1 .0)) $
       use1 W (‵ (flft κ₆ q₆) ⊛ (‵ (flft κ₄ q₄) ⊛ (‵ (flft κ₅ q₅) ⊛ ‵ (finally T.the-row (x₆ .name) out)))) (id⊢ 𝓤 _) $ split ! $ move ! (1 ∷ []) $ split ! $ move ! (1 ∷ []) $ split ! $
       move ! (4 ∷ []) $ use1 W (‵ (flft κ₀ q₀) ⊛ (‵ (flft κ₁ q₁) ⊛ (‵ (flft κ₂ q₂) ⊛ (‵ (flft κ₃ q₃) ⊛ (‵ (finally f32 (x₂ .name) (l .rows)) ⊛ (‵ (finally u32 (x₃ .name) (l .marks)) ⊛ (‵
       (finally u32 (x₄ .name) (l .pairs)) ⊛ ‵ (finally f32 (x₅ .name) (l .triples))))))))) (id⊢ 𝓤 _) $ split ! $ move ! (1 ∷ []) $ split ! $ move ! (1 ∷ []) $ split ! $ move ! (1 ∷ []) $
@@ -286,7 +287,7 @@ module _ {M : Type 1} (𝓤 : URA M) (H : Heap 𝓤) (A : Atoms 𝓤) (W : Given
         heard ! (n ≡ countOf (l .answer)) (λ e. split ! $ drop ! $ peeks ! usize (Is usize) (shows 𝓤 H A usize) n (w ∷ []) (λ isn. drop ! $
         land ! (from ! (stop !)) (store ! 16 refl (uint-lawful 𝓤 H A W w64 .typed n _ isn .0)) $ rewrite ! 16 (λ (y : Val). ‵ (fat fullShare (tyInt w64) l₁₈ 0 y)) (ap only (isn .0)) refl $
         use1 W (raw (Put 𝓤 H A mem run .pre (to-put 𝓤 H A mem run lent l n))) (asks-put 𝓤 H A W mem run lent l n (isn .1) (subst (λ (m : ℕ). m ≤ length (now x₆)) (sym e) (layout-holds
-        (now x₀) (now x₁) (now x₂) (now x₃) (now x₄) (now x₅) (now x₆) q (l .answer) (l .rows) (l .marks) (l .pairs) (l .triples) (told .0) .fit))) $
+        (now x₀) (now x₁) (now x₂) (now x₃) (now x₄) (now x₅) (now x₆) (rootInput q) (l .answer) (l .rows) (l .marks) (l .pairs) (l .triples) (told .0) .fit))) $
         calls-at ! fm (Put 𝓤 H A mem run) known₃ (to-put 𝓤 H A mem run lent l n) (and-then ! (load ! (from ! (stop !)) (look ! 10 refl)) (and-then ! (load ! (from ! (stop !))
         (look ! 6 refl)) (and-then ! (load ! (from ! (stop !)) (look ! 2 refl)) (and-then ! (load ! (from ! (stop !)) (look ! 16 refl)) (no-more !))))) (λ v.
         use1 W (later (some (λ (out : List Record). given (Stored lent l n v out) (raw (After 𝓤 H A lent out))))) (stores 𝓤 H A W mem run lent l n v) $ await ! tt $

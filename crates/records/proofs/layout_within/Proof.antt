@@ -2,15 +2,16 @@ use native.Mathlib.Omega.{arith}
 use lib.ListN.{length-take}
 use Prim.Native.Nat.{_*_}
 use borrow.Author.Needs.{needs}
+use Rattle.steps.specs.Question.{rootInput}
 use Rattle.records.proofs.Within.{layout-cut-at}
 use Rattle.records.proofs.layout_within.Statement.{statement}
 use Rattle.records.proofs.layout_within.Tie as tie
 
-least-requires : tie.Need-least-requires
-least-requires c κs = search needs
+smaller-requires : tie.Need-smaller-requires
+smaller-requires c κs = search needs
 
-least-requires-2 : tie.Need-least-requires-2
-least-requires-2 c κs = search needs
+smaller-requires-2 : tie.Need-smaller-requires-2
+smaller-requires-2 c κs = search needs
 
 mul-m2 : tie.Need-mul-m2
 mul-m2 c = search needs
@@ -23,16 +24,16 @@ slice-relend-prefix-layout c = search needs
 
 slice-aggregate-layout : tie.Need-slice-aggregate-layout
 slice-aggregate-layout c =
-    let p = length-take (2 * c .before .before .before .least2 .result) (c .before .before .before .before .before .before .before .before .before .before .before .args .pairs .now) in
-    omega (arith, p, c .before .before .before .least2 .ensures, c .before .before .before .before .least .ensures)
+    let p = length-take (2 * c .before .before .before .smaller2 .result) (c .before .before .before .before .before .before .before .before .before .before .before .args .pairs .now) in
+    omega (arith, p, c .before .before .before .smaller2 .ensures, c .before .before .before .before .smaller .ensures)
 
 slice-relend-prefix-layout-2 : tie.Need-slice-relend-prefix-layout-2
 slice-relend-prefix-layout-2 c = search needs
 
 slice-aggregate-layout-2 : tie.Need-slice-aggregate-layout-2
 slice-aggregate-layout-2 c =
-    let p = length-take (3 * c .before .before .before .before .least2 .result) (c .before .before .before .before .before .before .before .before .before .before .before .before .args .triples .now) in
-    omega (arith, p, c .before .before .before .before .least2 .ensures, c .before .before .before .before .before .least .ensures)
+    let p = length-take (3 * c .before .before .before .before .smaller2 .result) (c .before .before .before .before .before .before .before .before .before .before .before .before .args .triples .now) in
+    omega (arith, p, c .before .before .before .before .smaller2 .ensures, c .before .before .before .before .before .smaller .ensures)
 
 layout-requires : tie.Need-layout-requires
 layout-requires c κs = search needs
@@ -54,14 +55,14 @@ returns c =
     let s = c .before .before .before .before .before .before .before .before .before .before .before .before .before .before .before .before .before .before .before .before .before in
     let l = c .before .before .before .before .before .before .before .before in
     let z = c .before .before .before .before .before .before .before .before .before .before .before .before .before in
-    layout-cut-at (s .args .words .now) (s .args .numbers .now) (s .args .rows .now) (s .args .marks .now) (s .args .pairs .now) (s .args .triples .now) (s .args .k) (z .least2 .result) (omega (arith, z .least2 .ensures, z .before .least .ensures)) (s .args .q) _ _ _ _ _ (l .layout .ensures)
+    layout-cut-at (s .args .words .now) (s .args .numbers .now) (s .args .rows .now) (s .args .marks .now) (s .args .pairs .now) (s .args .triples .now) (s .args .k) (z .smaller2 .result) (omega (arith, z .smaller2 .ensures, z .before .smaller .ensures)) (rootInput (s .args .q)) _ _ _ _ _ (l .layout .ensures)
 
 pub layout-within-spec : {M : Type 1} → statement M
 layout-within-spec =
     tie.close
     (tie.spec
-    least-requires
-    least-requires-2
+    smaller-requires
+    smaller-requires-2
     mul-m2
     mul-m3
     slice-relend-prefix-layout

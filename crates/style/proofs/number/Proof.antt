@@ -2,7 +2,7 @@ use Rattle.style.specs.Style.{numberAt}
 use denote.Ref.{now}
 use Prim.Native.Nat.{_+_, _*_}
 use native.Mathlib.Omega.{arith}
-use Rattle.style.proofs.Reading.{getD-any, getD-past}
+use Rattle.lent.proofs.Reading.{getD-any, getD-past}
 use borrow.Author.Needs.{needs}
 use Rattle.style.proofs.number.Statement.{statement}
 use Rattle.style.proofs.number.Tie as tie

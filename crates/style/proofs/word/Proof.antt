@@ -2,7 +2,7 @@ use Rattle.style.specs.Style.{wordAt}
 use denote.Ref.{now}
 use Prim.Native.Nat.{_+_, _*_}
 use native.Mathlib.Omega.{arith}
-use Rattle.style.proofs.Reading.{getD-past}
+use Rattle.lent.proofs.Reading.{getD-past}
 use borrow.Author.Needs.{needs}
 use Rattle.style.proofs.word.Statement.{statement}
 use Rattle.style.proofs.word.Tie as tie

@@ -8,8 +8,9 @@ use lib.ListN.{length, take, drop, getD, drop-of-length-le}
 use lib.Dec.{eqb}
 use borrow.Author.Tests.{eq-eqb, ne-eqb}
 use denote.Ref.{now}
+use Rattle.text.specs.Laws.{past-none}
 use Rattle.text.specs.Pieces.{past}
-use Rattle.text.proofs.PieceTurn.{past-step, past-none, past-zero, past-end}
+use Rattle.text.proofs.PieceTurn.{past-step, past-zero, past-end}
 use Rattle.text.proofs.piece_start.Statement.{statement}
 use Rattle.text.proofs.piece_start.Tie as tie
 use Rattle.text.proofs.piece_start.Reads as reads

@@ -5,16 +5,16 @@ use mathlib.Core.Path.{_≡_, sym, _∙_, ap}
 use Prim.Native.Nat.{_≤_, _-_, min}
 use denote.Ref.{now}
 use lib.ListN.{length}
-use Rattle.steps.specs.Scan.{scan, atNode, lowest}
+use Rattle.steps.specs.Scan.{scan, firstOf}
 use Rattle.steps.specs.Noes.{badEdit}
-use Rattle.steps.specs.declared.Found.the-variants.{Nowhere}
+use Rattle.steps.specs.declared.Spot.the-variants.{Nowhere, At}
 use Rattle.tables.proofs.ScanLaws.{pass, here, over, start}
 use Rattle.tables.proofs.edits.first_bad_edit.Statement.{statement}
 use Rattle.tables.proofs.edits.first_bad_edit.Tie as tie
 
 abbrev Inv-loop : tie.InvT-loop
 Inv-loop edits n most k₀ k =
-    (most ≡ min 64 (length edits)) × (k ≤ most) × (scan (badEdit edits n) atNode Nowhere 0 most ≡ scan (badEdit edits n) atNode Nowhere k (most - k))
+    (most ≡ min 64 (length edits)) × (k ≤ most) × (scan (badEdit edits n) At Nowhere 0 most ≡ scan (badEdit edits n) At Nowhere k (most - k))
 
 abbrev μ-loop : tie.MeasureT-loop
 μ-loop edits n most k₀ k = most - k
@@ -25,7 +25,7 @@ looked-at-requires c κs = search needs
 loop-holds : tie.Need-loop-holds Inv-loop μ-loop
 loop-holds c =
     let a = c .before .before .args in
-    (c .looked-at .ensures, omega arith, start (badEdit (now (a .edits)) (a .n)) atNode Nowhere _)
+    (c .looked-at .ensures, omega arith, start (badEdit (now (a .edits)) (a .n)) At Nowhere _)
 
 mul-if1 : tie.Need-mul-if1 Inv-loop μ-loop
 mul-if1 c = omega arith
@@ -44,7 +44,7 @@ unfolding badEdit
 returns c =
     let a = c .before .before .before .before .before .before .args in
     let l = c .before .before .before .loop in
-    sym (ap (lowest (badEdit (now (a .edits)) (a .n))) (sym (l .inv .0)) ∙ l .inv .2 ∙ here (badEdit (now (a .edits)) (a .n)) atNode Nowhere _ (l .k) (omega arith) (rw (le-ltb _ _ (c .if1 .taken))))
+    sym (ap (firstOf (badEdit (now (a .edits)) (a .n))) (sym (l .inv .0)) ∙ l .inv .2 ∙ here (badEdit (now (a .edits)) (a .n)) At Nowhere _ (l .k) (omega arith) (rw (le-ltb _ _ (c .if1 .taken))))
 
 add-k : tie.Need-add-k Inv-loop μ-loop
 add-k c = omega arith
@@ -59,14 +59,14 @@ loop-again c =
     let l = c .before .before .before .loop in (
       l .inv .0,
       omega arith,
-      l .inv .2 ∙ pass (badEdit (now (a .edits)) (a .n)) atNode Nowhere _ (l .k) (omega arith) (rw (lt-ltb _ _ (c .if1 .left))),
+      l .inv .2 ∙ pass (badEdit (now (a .edits)) (a .n)) At Nowhere _ (l .k) (omega arith) (rw (lt-ltb _ _ (c .if1 .left))),
     )
 
 returns-2 : tie.Need-returns-2 Inv-loop μ-loop
 returns-2 c =
     let a = c .before .before .before .before .args in
     let l = c .before .loop in
-    sym (ap (lowest (badEdit (now (a .edits)) (a .n))) (sym (l .inv .0)) ∙ l .inv .2 ∙ over (badEdit (now (a .edits)) (a .n)) atNode Nowhere _ (l .k) (omega arith))
+    sym (ap (firstOf (badEdit (now (a .edits)) (a .n))) (sym (l .inv .0)) ∙ l .inv .2 ∙ over (badEdit (now (a .edits)) (a .n)) At Nowhere _ (l .k) (omega arith))
 
 pub first-bad-edit-spec : {M : Type 1} → statement M
 first-bad-edit-spec =

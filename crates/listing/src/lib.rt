@@ -1,0 +1,2 @@
+// Which nodes the candidate list names, and how many. No code.
+pub const LISTING: u32 = 1;
