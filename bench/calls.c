@@ -6,16 +6,6 @@
 #include "bare.h"
 #include "pages.h"
 
-static void fill(const char *shape, size_t n) {
-    if (same(shape, "flat")) {
-        flat(n);
-    } else if (same(shape, "deep")) {
-        deep(n);
-    } else {
-        mixed_below(0, n);
-    }
-}
-
 int run(char **argv) {
     size_t n = number(argv[2]), calls = number(argv[4]);
     struct mearrasot_page p = page_of(n);

@@ -73,6 +73,17 @@ static inline void mixed_below(size_t at, size_t n) {
     }
 }
 
+/* A page of that shape. It needs same of bare.h. */
+static inline void fill(const char *shape, size_t n) {
+    if (same(shape, "flat")) {
+        flat(n);
+    } else if (same(shape, "deep")) {
+        deep(n);
+    } else {
+        mixed_below(0, n);
+    }
+}
+
 /* The leaf that is edited: the first from the middle on. */
 static inline size_t middle_leaf(size_t n) {
     size_t i = n / 2;

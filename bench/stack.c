@@ -2,7 +2,7 @@
  * How much stack a call takes: it runs on a painted stack of its own, and the
  * paint that is left is counted. The pages are chains of nodes, 32 levels and
  * 16, with a leaf at the end or a node out of the flow; each call is asked with
- * a known width and with none.
+ * a known width and with none. The leaf is the index's one entry.
  */
 #include "bare.h"
 #include "pages.h"
@@ -13,7 +13,8 @@ static unsigned char stack[STACK] __attribute__((aligned(16)));
 static struct mearrasot_page page;
 static struct mearrasot_question asked;
 static uint32_t edits[1];
-static float size[2];
+static float size[2], edge[3];
+static uint64_t found[1];
 static uint64_t answer;
 
 static void lay(void) {
@@ -26,6 +27,15 @@ static void relay(void) {
 
 static void measure(void) {
     answer = mearrasot_size_page(&page, size, asked);
+}
+
+static void index_of_one(void) {
+    const struct mearrasot_leaves l = {1, edits, edge, edge + 1, edge + 2};
+    answer = mearrasot_index_page(&page, &l);
+}
+
+static void scroll(void) {
+    answer = mearrasot_scroll(edge, 3, 0, found);
 }
 
 static void on_stack(void (*call)(void)) {
@@ -69,6 +79,10 @@ static void show_all(size_t depth, uint32_t style, const char *last) {
         show("  layout", known, lay);
         show("  relayout", known, relay);
         show("  size", known, measure);
+        if (style == 0) {
+            show("  index", known, index_of_one);
+            show("  scroll", known, scroll);
+        }
     }
 }
 

@@ -20,6 +20,7 @@ extern "C" {
 #define MEARRASOT_MAX_NODES 1024
 #define MEARRASOT_MAX_DEPTH 32 /* the root is level 1 */
 #define MEARRASOT_MAX_EDITS 64
+#define MEARRASOT_MAX_LIST 256 /* leaves of an index */
 
 /* ---- The tables: how many entries for each node or record ---- */
 
@@ -173,15 +174,17 @@ enum mearrasot_row {
  * are tested in this order; each is given exactly if it is due.
  */
 enum mearrasot_answer {
-    MEARRASOT_DONE = 0,       /* accepted; place: the count of candidates, 0 for a size */
+    MEARRASOT_DONE = 0,       /* accepted; place: the count of candidates, 0 for a size, an index, a scroll key */
     MEARRASOT_LENGTHS = 1,    /* no node, over 1,024, or tables not of n nodes; place 0 */
     MEARRASOT_TREE = 2,       /* a subtree's size is wrong, a leaf has children, over 32 levels; place: the lowest such node */
     MEARRASOT_CODES = 3,      /* unknown code, unused bit, forbidden unit, root not a block; the lowest node */
     MEARRASOT_BAD_NUMBER = 4, /* NaN, infinite or out of range; the lowest node, n for the question */
     MEARRASOT_ROOM = 5,       /* too few records lent; place 0. Not by mearrasot_size */
     MEARRASOT_EDITS = 6,      /* an edit that is no node, or over 64; its index, or 64. mearrasot_relayout alone */
-    MEARRASOT_NOT_LAID = 7,   /* the root's row was not laid; place 0. mearrasot_relayout alone */
-    MEARRASOT_TOO_LARGE = 8   /* a result of 16,777,216 or more; the lowest node, 0 for a size */
+    MEARRASOT_NOT_LAID = 7,   /* the root's row was not laid; place 0. mearrasot_relayout and mearrasot_index */
+    MEARRASOT_TOO_LARGE = 8,  /* a result of 16,777,216 or more; the lowest node, 0 for a size */
+    MEARRASOT_BAD_LIST = 9,   /* over 256 leaves, not ascending, no node, no leaf, not laid; its index, or 256. mearrasot_index alone */
+    MEARRASOT_NOT_FINITE = 10 /* y is NaN or infinite; place 0. mearrasot_scroll alone */
 };
 
 static inline uint32_t mearrasot_number(uint64_t answer) {
@@ -241,6 +244,30 @@ uint64_t mearrasot_size(const uint32_t *words, size_t words_len,
                         float known_width, float known_height,
                         float parent_width, float available,
                         uint32_t how);
+
+/*
+ * The vertical index: of each leaf in list, its top and bottom edge measured
+ * from the page's corner, and the largest bottom up to it. list has at most 256
+ * laid leaves, by node number, ascending; tops, bottoms and running have an
+ * entry for each. It is made again after each layout or relayout. A refusal (1,
+ * 2, 3, 7, 9) leaves the three as they were.
+ */
+uint64_t mearrasot_index(const uint32_t *words, size_t words_len,
+                         const float *rows, size_t rows_len,
+                         const uint32_t *marks, size_t marks_len,
+                         const uint32_t *list, size_t list_len,
+                         float *tops, size_t tops_len,
+                         float *bottoms, size_t bottoms_len,
+                         float *running, size_t running_len);
+
+/*
+ * The scroll key: the position in list, from 0, of the first leaf whose bottom
+ * is greater than y goes to found[0], or MEARRASOT_NONE if there is none. running
+ * is as mearrasot_index left it. Refused with 10, found stays as it was.
+ */
+#define MEARRASOT_NONE UINT64_MAX
+uint64_t mearrasot_scroll(const float *running, size_t running_len, float y,
+                          uint64_t found[1]);
 
 /* ---- Helpers, for the caller's convenience ---- */
 
@@ -334,6 +361,25 @@ static inline uint64_t mearrasot_size_page(const struct mearrasot_page *p,
         p->words, MEARRASOT_WORDS * p->nodes,
         p->numbers, MEARRASOT_NUMBERS * p->nodes, size,
         q.known_width, q.known_height, q.parent_width, q.available, q.how);
+}
+
+/* An index of a page, with lengths by the number of its leaves. */
+struct mearrasot_leaves {
+    size_t count;
+    const uint32_t *list;
+    float *tops;
+    float *bottoms;
+    float *running;
+};
+
+static inline uint64_t mearrasot_index_page(const struct mearrasot_page *p,
+                                            const struct mearrasot_leaves *l) {
+    return mearrasot_index(
+        p->words, MEARRASOT_WORDS * p->nodes,
+        p->rows, MEARRASOT_ROW * p->nodes,
+        p->marks, MEARRASOT_MARKS * p->nodes,
+        l->list, l->count,
+        l->tops, l->count, l->bottoms, l->count, l->running, l->count);
 }
 
 #ifdef __cplusplus

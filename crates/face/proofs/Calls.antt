@@ -16,7 +16,11 @@ use Rattle.steps.specs.declared.RequestedAxis.{RequestedAxis}
 use Rattle.steps.specs.declared.SizeAnswer.{SizeAnswer}
 use Rattle.steps.specs.declared.SizeAnswer.the-variants as size
 use Rattle.layout.specs.Public.{Replied}
-use Rattle.face.specs.Answered.{Halves, Answered, Sized}
+use Rattle.index.specs.Index.{Index, Indexed, indexPaper}
+use Rattle.index.specs.declared.IndexAnswer.{IndexAnswer}
+use Rattle.scroll.specs.Scroll.{scrollPaper}
+use Rattle.scroll.specs.declared.ScrollAnswer.{ScrollAnswer}
+use Rattle.face.specs.Answered.{Halves, Answered, Sized, IndexAnswered, Scrolled, foundIn}
 
 -- the answer packed, the memory as it was left
 pub answered : {w v : Reply} {a : Answer} {r : ℕ} {rows : List Float} {marks : List ℕ} {pairs : List ℕ} {triples : List Float} → w ≡ v → Replied w a rows marks pairs triples → Halves (paper a) r → Answered v r rows marks pairs triples
@@ -43,3 +47,17 @@ sized {v} {s} {r} e h = subst (λ (u : SizeAnswer). Sized u r (s .width ∷ s .h
 pub refused : {v : SizeAnswer} {a : Answer} {r : ℕ} → v ≡ size.Refused a → Halves (paper a) r → Sized v r (zeroF ∷ zeroF ∷ [])
 unfolding sizePaper axes
 refused {v} {a} {r} e h = subst (λ (u : SizeAnswer). Sized u r (zeroF ∷ zeroF ∷ [])) (sym e) record { answer-is = h; size-is = refl }
+
+-- one case of an index answer
+pub of-index : {a b : IndexAnswer} {p : ℕ × ℕ} {r : ℕ} → a ≡ b → indexPaper b ≡ p → Halves p r → Halves (indexPaper a) r
+of-index {a} {b} {p} {r} e f h = subst (λ (q : ℕ × ℕ). Halves q r) (sym (ap indexPaper e ∙ f)) h
+
+-- the index answer packed, the slices as they were left
+pub indexed : {w : Index} {a : IndexAnswer} {r : ℕ} {ts bs ls : List Float} → Indexed w a ts bs ls → Halves (indexPaper a) r → IndexAnswered w r ts bs ls
+indexed {w} {a} {r} {ts} {bs} {ls} s h =
+    record { answer-is = subst (λ (x : IndexAnswer). Halves (indexPaper x) r) (s .answer-is) h; tops-are = s .tops-are; bottoms-are = s .bottoms-are; running-is = s .running-is }
+
+-- what the scroll key found, or that it was refused
+pub scrolled : {a b : ScrollAnswer} {p : ℕ × ℕ} {r : ℕ} {lent found : List ℕ} → a ≡ b → scrollPaper b ≡ p → found ≡ foundIn b lent → Halves p r → Scrolled a lent r found
+scrolled {a} {b} {p} {r} {lent} {found} e f g h =
+    subst (λ (x : ScrollAnswer). Scrolled x lent r found) (sym e) record { answer-is = subst (λ (q : ℕ × ℕ). Halves q r) (sym f) h; found-is = g }

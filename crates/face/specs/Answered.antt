@@ -7,6 +7,10 @@ use lib.Ieee.{Float}
 use Rattle.steps.specs.Noes.{paper}
 use Rattle.steps.specs.Results.{Reply, sizePaper}
 use Rattle.steps.specs.declared.SizeAnswer.{SizeAnswer}
+use Rattle.index.specs.Index.{Index, indexPaper}
+use Rattle.scroll.specs.Scroll.{scrollPaper}
+use Rattle.scroll.specs.declared.ScrollAnswer.{ScrollAnswer}
+use Rattle.scroll.specs.declared.ScrollAnswer.the-variants.{First, Nothing, NotFinite}
 
 -- the upper half is 01's number of an answer, the lower half its place
 pub record Halves (p : ℕ × ℕ) (r : ℕ) : Type 0 where
@@ -29,3 +33,20 @@ pub record Answered (want : Reply) (r : ℕ) (rows : List Float) (marks : List �
 pub record Sized (want : SizeAnswer) (r : ℕ) (size : List Float) : Type 0 where
   pub answer-is : Halves (sizePaper want .0) r
   pub size-is : size ≡ sizePaper want .1 .width ∷ sizePaper want .1 .height ∷ []
+
+-- an index: the answer and the three slices
+pub record IndexAnswered (want : Index) (r : ℕ) (tops bottoms running : List Float) : Type 0 where
+  pub answer-is : Halves (indexPaper (want .answer)) r
+  pub tops-are : tops ≡ want .tops
+  pub bottoms-are : bottoms ≡ want .bottoms
+  pub running-is : running ≡ want .running
+
+-- what the scroll key leaves in its one word: the position, all ones for none, as lent if it is refused
+unfoldable pub foundIn : ScrollAnswer → List ℕ → List ℕ
+foundIn (First k) lent = k ∷ []
+foundIn Nothing lent = 0xffff_ffff_ffff_ffff ∷ []
+foundIn NotFinite lent = lent
+
+pub record Scrolled (want : ScrollAnswer) (lent : List ℕ) (r : ℕ) (found : List ℕ) : Type 0 where
+  pub answer-is : Halves (scrollPaper want) r
+  pub found-is : found ≡ foundIn want lent

@@ -5,8 +5,12 @@ ghost use Rattle.steps.specs.Noes.{paper};
 ghost use Rattle.steps.specs.Question.{rootInput};
 ghost use Rattle.steps.specs.Results.{layoutResult, relayoutResult, sizeResult, sizePaper};
 ghost use Rattle.face.specs.Question.{given, availableOf, plainQuestion, axisOf};
-ghost use Rattle.face.specs.Answered.{Halves, Answered, Sized};
+ghost use Rattle.face.specs.Answered.{Halves, Answered, Sized, IndexAnswered, Scrolled};
+ghost use Rattle.index.specs.Index.{indexPaper, indexResult};
+ghost use Rattle.scroll.specs.Scroll.{scrollAnswer};
+use index::IndexAnswer;
 use length::AvailableSpace;
+use scroll::ScrollAnswer;
 use steps::Answer;
 use steps::Question;
 use steps::RequestedAxis;
@@ -71,7 +75,7 @@ fn axis(how: u32) -> RequestedAxis
 
 // A number and a place as the two halves of a word.
 fn halves(number: u64, place: u32) -> u64
-    requires { ⌜ number ≤ 8 ⌝ }
+    requires { ⌜ number ≤ 10 ⌝ }
     ensures { λ r. ⌜ Halves (number, place) r ⌝ }
 {
     number * 0x1_0000_0000 + place as u64
@@ -154,5 +158,52 @@ pub extern "C" fn mearrasot_size(
             *size = [0.0, 0.0];
             packed(no)
         }
+    }
+}
+
+// An index answer as the number and place of its request.
+fn packed_index(a: IndexAnswer) -> u64
+    ensures { λ r. ⌜ Halves (indexPaper a) r ⌝ }
+{
+    match a {
+        IndexAnswer::Made => halves(0, 0),
+        IndexAnswer::Refused(no) => packed(no),
+        IndexAnswer::BadEntry(k) => halves(9, k),
+    }
+}
+
+// The vertical index of a list of leaves.
+#[no_mangle]
+pub extern "C" fn mearrasot_index(
+    words: &[u32],
+    rows: &[f32],
+    marks: &[u32],
+    list: &[u32],
+    tops: &mut [f32],
+    bottoms: &mut [f32],
+    running: &mut [f32],
+) -> u64
+    ensures { λ r. ⌜ IndexAnswered (indexResult (now (words .entry)) (now (rows .entry)) (now (marks .entry)) (now (list .entry)) (now (tops .entry)) (now (bottoms .entry)) (now (running .entry))) r (now (tops .exit)) (now (bottoms .exit)) (now (running .exit)) ⌝ }
+{
+    let a = index::make_index(words, rows, marks, list, tops, bottoms, running);
+    packed_index(a)
+}
+
+// The first position of the index whose bottom is a greater number than y, written to `found`: all ones if there is none.
+#[no_mangle]
+pub extern "C" fn mearrasot_scroll(running: &[f32], y: f32, found: &mut [u64; 1]) -> u64
+    ensures { λ r. ⌜ Scrolled (scrollAnswer (now (running .entry)) y) (now (found .entry)) r (now (found .exit)) ⌝ }
+{
+    let a = scroll::scroll(running, y);
+    match a {
+        ScrollAnswer::First(k) => {
+            *found = [k as u64];
+            halves(0, 0)
+        }
+        ScrollAnswer::Nothing => {
+            *found = [0xffff_ffff_ffff_ffff];
+            halves(0, 0)
+        }
+        ScrollAnswer::NotFinite => halves(10, 0),
     }
 }

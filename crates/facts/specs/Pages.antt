@@ -126,6 +126,9 @@ px40 = 0x4220_0000
 abbrev px50 : ℕ
 px50 = 0x4248_0000
 
+abbrev px60 : ℕ
+px60 = 0x4270_0000
+
 abbrev px100 : ℕ
 px100 = 0x42c8_0000
 
@@ -191,6 +194,22 @@ page8 =
       expected = 0 ∷ px20 ∷ px35 ∷ [];
     }
 
+-- not of 01: three leaves of which the second has a margin of -60, so that tops are not sorted (crate index_facts); y and height of each row
+abbrev leaf : ℕ → List ℕ → List ℕ
+leaf fields rest = 1 ∷ 1 ∷ (0x5500000 + fields) ∷ 0x55 ∷ rest
+
+unfoldable pub unsorted : Checked
+unsorted =
+    record {
+      words = block 4 0 (leaf 0 (leaf topMargin (leaf 0 [])));
+      numbers = given 1 26 px50 ∷ given 2 6 (minus px60) ∷ given 2 26 px10 ∷ given 3 26 px10 ∷ [];
+      parent = px100;
+      width = hundred;
+      flags = false;
+      asked = rows (1 ∷ 3 ∷ 17 ∷ 19 ∷ 33 ∷ 35 ∷ 49 ∷ 51 ∷ []);
+      expected = 0 ∷ 0 ∷ px10 ∷ 0 ∷ px50 ∷ minus px10 ∷ px10 ∷ 0 ∷ px10 ∷ [];
+    }
+
 unfoldable pub table : List Checked
 table =
     page1
@@ -203,9 +222,10 @@ table =
     ∷ page7 0 (17 ∷ 4 ∷ 5 ∷ []) (0 ∷ 0 ∷ px10 ∷ 0 ∷ [])
     ∷ page7 px1 (17 ∷ []) (0 ∷ px11 ∷ [])
     ∷ page8
+    ∷ unsorted
     ∷ []
 
 -- every page of the table gives what it should
 pub checked-pages : map resultOf table ≡ map (λ (p : Checked). p .expected) table
-unfolding calls rootInput numbersOf checkedQuestion readAt readRows readSize answerTo resultOf page1 page2 page3 between page7 page8 table
+unfolding calls rootInput numbersOf checkedQuestion readAt readRows readSize answerTo resultOf page1 page2 page3 between page7 page8 unsorted table
 checked-pages = refl

@@ -32,24 +32,24 @@ pub record Exactly (A B : Type 0) : Type 0 where
   pub given : B → A
 
 -- an answer is settled by what holds of it and by what it is given for
-settled : (t : Tested) (D : Tested → Type 0) → D t → ((u : Tested) → D u → t ≡ u) → (u : Tested) → Exactly (t ≡ u) (D u)
+pub settled : (t : Tested) (D : Tested → Type 0) → D t → ((u : Tested) → D u → t ≡ u) → (u : Tested) → Exactly (t ≡ u) (D u)
 settled t D holds gives u = record { only = λ e. subst D e holds; given = gives u }
 
 -- ---- each test by itself
 module _ (ws : List ℕ) where
-  tree-fault : (i : NodeId) → Lowest (badTree ws) (nodesIn ws) (i .0) → no2 ws ≡ Refuse (Tree i)
+  pub tree-fault : (i : NodeId) → Lowest (badTree ws) (nodesIn ws) (i .0) → no2 ws ≡ Refuse (Tree i)
   unfolding no2 atFault
   tree-fault i h = rw (at-lowest (badTree ws) (nodesIn ws) (i .0) h)
 
-  tree-pass : Sound (badTree ws) (nodesIn ws) → no2 ws ≡ Pass
+  pub tree-pass : Sound (badTree ws) (nodesIn ws) → no2 ws ≡ Pass
   unfolding no2 atFault
   tree-pass h = rw (nowhere-lowest (badTree ws) (nodesIn ws) h)
 
-  codes-fault : (i : NodeId) → Lowest (badCodes ws) (nodesIn ws) (i .0) → no3 ws ≡ Refuse (Codes i)
+  pub codes-fault : (i : NodeId) → Lowest (badCodes ws) (nodesIn ws) (i .0) → no3 ws ≡ Refuse (Codes i)
   unfolding no3 atFault
   codes-fault i h = rw (at-lowest (badCodes ws) (nodesIn ws) (i .0) h)
 
-  codes-pass : Sound (badCodes ws) (nodesIn ws) → no3 ws ≡ Pass
+  pub codes-pass : Sound (badCodes ws) (nodesIn ws) → no3 ws ≡ Pass
   unfolding no3 atFault
   codes-pass h = rw (nowhere-lowest (badCodes ws) (nodesIn ws) h)
 

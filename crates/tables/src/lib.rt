@@ -46,7 +46,7 @@ fn bad_tables(words: &[u32], numbers: &[f32]) -> bool
 }
 
 // 1: not 16 row numbers and 2 row words for each node.
-fn bad_rows(words: &[u32], rows: &[f32], marks: &[u32]) -> bool
+pub fn bad_rows(words: &[u32], rows: &[f32], marks: &[u32]) -> bool
     requires { ⌜ nodesIn (now words) ≤ 1024 ⌝ }
     ensures { λ r. ⌜ r ≡ badRows (now (words .entry)) (now (rows .entry)) (now (marks .entry)) ⌝ }
 {
@@ -76,7 +76,7 @@ pub fn check_tree(words: &[u32]) -> Found
 }
 
 // 2.
-fn tree_tested(words: &[u32]) -> Tested
+pub fn tree_tested(words: &[u32]) -> Tested
     ensures { λ r. ⌜ r ≡ no2 (now (words .entry)) ⌝ }
 {
     match check_tree(words) {
@@ -86,7 +86,7 @@ fn tree_tested(words: &[u32]) -> Tested
 }
 
 // 3.
-fn codes_tested(words: &[u32]) -> Tested
+pub fn codes_tested(words: &[u32]) -> Tested
     requires { ⌜ nodesIn (now words) ≤ 1024 ⌝ }
     ensures { λ r. ⌜ r ≡ no3 (now (words .entry)) ⌝ }
 {
@@ -130,7 +130,7 @@ fn room_tested(words: &[u32], pairs: &[u32], triples: &[f32]) -> Tested
 }
 
 // 7.
-fn root_tested(marks: &[u32]) -> Tested
+pub fn root_tested(marks: &[u32]) -> Tested
     ensures { λ r. ⌜ r ≡ no7 (now (marks .entry)) ⌝ }
 {
     if flag(word(marks, 0, 1), 0) {

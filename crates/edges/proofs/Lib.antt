@@ -1,0 +1,4 @@
+pub mod Outward
+pub mod OfTree
+pub mod Exact
+pub mod Words

@@ -1,0 +1,5 @@
+pub mod Filling
+pub mod Exact
+pub mod Making
+pub mod Testing
+pub mod Leaving

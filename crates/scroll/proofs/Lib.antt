@@ -1,0 +1,5 @@
+pub mod HalvingLaws
+pub mod RunningLaws
+pub mod FirstMatch
+pub mod Finite
+pub mod Answers
