@@ -41,7 +41,8 @@ pub record LeftBy (number : ℕ) (rs rs′ : List Float) (ms ms′ cw cw′ : Li
   pub as-lent : 1 ≤ number → number ≤ 7 → AsLent rs rs′ ms ms′ cw cw′ cx cx′
   pub zeroed : number ≡ 8 → Zeroed rs rs′ ms ms′ cw cw′ cx cx′
 
-abbrev LeavesR : Reply → List Float → List ℕ → List ℕ → List Float → Type 0
+-- the same of a reply
+abbrev pub LeavesR : Reply → List Float → List ℕ → List ℕ → List Float → Type 0
 LeavesR r rs ms cw cx = LeftBy (paper (r .answer) .0) rs (r .rows) ms (r .marks) cw (r .words) cx (r .numbers)
 
 module _ (rs : List Float) (ms cw : List ℕ) (cx : List Float) where

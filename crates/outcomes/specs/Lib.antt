@@ -6,3 +6,4 @@ pub mod Relayout
 pub mod Sizes
 pub mod C
 pub mod Records
+pub mod RecordsLeft
