@@ -70,10 +70,14 @@ extern "C" {
 /* No margin collapses through this box. */
 #define MEARRASOT_CONTAINED (1u << 12)
 
-/* Units of a field. A fraction is of a width: 0.5 is half of it. */
+/*
+ * Units of a field. 0.5 is half: of a width, or in the two heights' fields and
+ * the top and bottom inset of a height. A fraction of a height counts where the
+ * container's height is definite, else it is auto; no ratio may stand beside it.
+ */
 #define MEARRASOT_AUTO 0u     /* not for padding and border */
 #define MEARRASOT_PIXELS 1u
-#define MEARRASOT_FRACTION 2u /* not for heights, nor for top and bottom inset */
+#define MEARRASOT_FRACTION 2u
 
 /*
  * numbers, 27 for each node. Fields 0 to 21 have a unit; the number of a field
@@ -111,7 +115,7 @@ enum mearrasot_field {
  * the margins of its children without its own; one that does not holds its own
  * margin alone.
  * Of a shown node out of the flow: start, line and end in 0, 1 and 2.
- * 11 to 15 are for the next relayout alone.
+ * 11 to 15 are for the next relayout alone; 15 is 0.
  */
 enum mearrasot_row {
     MEARRASOT_R_X = 0,
@@ -124,6 +128,7 @@ enum mearrasot_row {
     MEARRASOT_R_KNOWN_HEIGHT = 9,
     MEARRASOT_R_PARENT_WIDTH = 10,
     MEARRASOT_R_PROBE = 11,
+    MEARRASOT_R_HEIGHT_BASIS = 14, /* what a fraction of its height is a part of */
     MEARRASOT_R_START = 0,
     MEARRASOT_R_LINE = 1,
     MEARRASOT_R_END = 2
@@ -142,6 +147,7 @@ enum mearrasot_row {
 #define MEARRASOT_PROBED (1u << 4)
 #define MEARRASOT_PROBE_KIND(bits) (((bits) >> 5) & 3u) /* 1 definite, 2 min-content, 3 max-content */
 #define MEARRASOT_PROBE_HEIGHT (1u << 7)
+#define MEARRASOT_BASIS_GIVEN (1u << 8)
 
 /*
  * The candidate list: a record for each shown node out of the flow that is not
@@ -156,7 +162,7 @@ enum mearrasot_row {
 
 /*
  * how, a sum of bits. Bits 2-3 are the kind of available width; 0 there means
- * max-content. Bits from 7 on are ignored.
+ * max-content. Bits from 8 on are ignored.
  */
 #define MEARRASOT_KNOWN_WIDTH (1u << 0)  /* known_width counts, else it is not read */
 #define MEARRASOT_KNOWN_HEIGHT (1u << 1) /* known_height counts */
@@ -166,6 +172,7 @@ enum mearrasot_row {
 #define MEARRASOT_START (1u << 4)        /* the root's top margin may collapse */
 #define MEARRASOT_END (1u << 5)          /* so may its bottom margin */
 #define MEARRASOT_WIDTH_ONLY (1u << 6)   /* mearrasot_size alone */
+#define MEARRASOT_DEFINITE_HEIGHT (1u << 7) /* fractions of heights may take known_height for a basis */
 
 /* ---- The answer ---- */
 
@@ -177,7 +184,7 @@ enum mearrasot_answer {
     MEARRASOT_DONE = 0,       /* accepted; place: the count of candidates, 0 for a size, an index, a scroll key */
     MEARRASOT_LENGTHS = 1,    /* no node, over 1,024, or tables not of n nodes; place 0 */
     MEARRASOT_TREE = 2,       /* a subtree's size is wrong, a leaf has children, over 32 levels; place: the lowest such node */
-    MEARRASOT_CODES = 3,      /* unknown code, unused bit, forbidden unit, root not a block; the lowest node */
+    MEARRASOT_CODES = 3,      /* unknown code, unused bit, forbidden unit, root not a block, ratio beside a fraction of a height; the lowest node */
     MEARRASOT_BAD_NUMBER = 4, /* NaN, infinite or out of range; the lowest node, n for the question */
     MEARRASOT_ROOM = 5,       /* too few records lent; place 0. Not by mearrasot_size */
     MEARRASOT_EDITS = 6,      /* an edit that is no node, or over 64; its index, or 64. mearrasot_relayout alone */

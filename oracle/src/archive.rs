@@ -84,7 +84,8 @@ fn call(page: &Page) -> Vec<u8> {
         | kind << 2
         | (question.start as u32) << 4
         | (question.end as u32) << 5
-        | ((question.ask == Ask::Width) as u32) << 6;
+        | ((question.ask == Ask::Width) as u32) << 6
+        | (question.definite as u32) << 7;
     let numbers =
         [question.width, question.height, question.parent, Some(available)].map(Option::unwrap_or_default);
     let head = [(question.ask != Ask::Layout) as u32, page.nodes() as u32, how];

@@ -6,8 +6,8 @@ use crate::rules::{Rule, Rules};
 use crate::{crate_tree, reading};
 
 pub enum Verdict {
-    /// 01 refuses the page, as a result is too large. The archive refuses it at the same node.
-    Refused,
+    /// 01 refuses the page with this number. The archive does so too, at the same node.
+    Refused(u32),
     /// block.rs gives the answer of 01.
     Equal,
     /// block.rs gives another answer, and these rules are why.
@@ -24,12 +24,12 @@ pub enum Fault {
 }
 
 pub fn judge(page: &Page, archive: &mut Archive) -> std::io::Result<Verdict> {
-    let plain = reading::answer(page, Rules::NONE).limited();
+    let plain = reading::plain(page);
     if archive.answer(page)? != plain {
         return Ok(Verdict::Unexplained(Fault::Archive));
     }
-    if plain.refused() {
-        return Ok(Verdict::Refused);
+    if let Outcome::Refused { number, .. } = plain {
+        return Ok(Verdict::Refused(number));
     }
     let from_crate = crate_tree::answer(page);
     if turned(page, Rules::all()) != from_crate {

@@ -105,7 +105,11 @@ fn root_input(page: &Page) -> LayoutInput {
         sizing_mode: SizingMode::InherentSize,
         axis: if question.ask == Ask::Width { RequestedAxis::Horizontal } else { RequestedAxis::Both },
         known_dimensions: Size { width: question.width, height: question.height },
-        known_dimensions_are_definite: Size { width: true, height: true },
+        // The flag is about an asked height alone; in block.rs it would be about a styled one too.
+        known_dimensions_are_definite: Size {
+            width: true,
+            height: question.definite || question.height.is_none(),
+        },
         parent_size: Size { width: question.parent, height: None },
         available_space: Size { width, height: AvailableSpace::MaxContent },
         vertical_margins_are_collapsible: Line { start: question.start, end: question.end },

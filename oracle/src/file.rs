@@ -10,7 +10,9 @@ pub fn read(text: &str, ask: Ask) -> Result<Page, usize> {
         ask,
         width: None,
         height: None,
+        definite: false,
         parent: Some(0.0),
+        basis: None,
         available: Available::MaxContent,
         start: false,
         end: false,
@@ -35,7 +37,9 @@ fn read_line(page: &mut Page, line: &str) -> Option<()> {
         ("parent", [width]) => question.parent = Some(float(width)?),
         ("known", [width, height]) => (question.width, question.height) = (known(width)?, known(height)?),
         ("avail", [width]) => question.available = available(width)?,
-        ("lines", [start, end]) => (question.start, question.end) = (*start == "1", *end == "1"),
+        ("lines", [start, end, definite]) => {
+            (question.start, question.end, question.definite) = (flag(start)?, flag(end)?, flag(definite)?);
+        }
         ("node", words) if words.len() == WORDS => {
             for word in words {
                 page.words.push(hex(word)?);
@@ -72,6 +76,14 @@ fn float(text: &str) -> Option<f32> {
     hex(text).map(f32::from_bits)
 }
 
+fn flag(text: &str) -> Option<bool> {
+    match text {
+        "0" => Some(false),
+        "1" => Some(true),
+        _ => None,
+    }
+}
+
 fn known(text: &str) -> Option<Option<f32>> {
     if text == "none" {
         Some(None)
@@ -99,7 +111,8 @@ pub fn write(page: &Page) -> String {
     let mut out = format!("nodes={}\nparent={}\n", page.nodes(), known(question.parent));
     let _ = writeln!(out, "known={},{}", known(question.width), known(question.height));
     let _ = writeln!(out, "avail={available}");
-    let _ = writeln!(out, "lines={},{}", question.start as u8, question.end as u8);
+    let flags = [question.start, question.end, question.definite].map(|flag| flag as u8);
+    let _ = writeln!(out, "lines={},{},{}", flags[0], flags[1], flags[2]);
     for (words, numbers) in page.words.chunks(WORDS).zip(page.numbers.chunks(NUMBERS)) {
         let words: Vec<String> = words.iter().map(|word| format!("{word:08x}")).collect();
         let _ = writeln!(out, "node={}", words.join(","));
@@ -111,7 +124,7 @@ pub fn write(page: &Page) -> String {
 }
 
 /// The lines of an answer, the two zeros alike. A box has two lines more than in 01: `sets=` with its
-/// margin sets and whether margins go through it, `asked=` with its bits from 3 on and row numbers 8 to 13.
+/// margin sets and whether margins go through it, `asked=` with its bits from 3 on and row numbers 8 to 14.
 /// Boxes that are not laid have a line `other=` with their order, bits and row numbers 0 to 2.
 pub fn lines(outcome: &Outcome) -> Vec<String> {
     match outcome {
@@ -137,7 +150,7 @@ fn row_lines(node: usize, row: &Row) -> Vec<String> {
     vec![
         format!("box={node},{order},{}", list(&numbers[..4])),
         format!("sets={node},{},{}", list(&numbers[4..8]), (bits & THROUGH != 0) as u8),
-        format!("asked={node},{},{}", bits >> 3, list(&numbers[8..14])),
+        format!("asked={node},{},{}", bits >> 3, list(&numbers[8..15])),
     ]
 }
 

@@ -91,8 +91,7 @@ fn print_odd(odd: Odd, archive: &mut Archive) -> std::io::Result<()> {
     print!("{}", file::write(&page));
     match odd.fault {
         Fault::Archive => {
-            let plain = reading::answer(&page, Rules::NONE).limited();
-            print_parting("01 ", &plain, "archive ", &archive.answer(&page)?);
+            print_parting("01 ", &reading::plain(&page), "archive ", &archive.answer(&page)?);
         }
         Fault::Crate => {
             let turned = compare::turned(&page, Rules::all());
@@ -138,7 +137,7 @@ fn show(name: &str, ask: Ask, rules: Rules, program: &[String]) -> std::io::Resu
     match verdict {
         Verdict::Differs(rules) => println!("rules: {rules}"),
         Verdict::Unexplained(_) => println!("UNEXPLAINED"),
-        Verdict::Equal | Verdict::Refused => println!("nowhere"),
+        Verdict::Equal | Verdict::Refused(_) => println!("nowhere"),
     }
     if rules != Rules::NONE {
         println!("\nwhere the reading with rules {rules} parts from it:");

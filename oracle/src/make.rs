@@ -1,6 +1,8 @@
-//! Random pages: all that 01 allows. Each page has a mood, so that pages without a feature are as
-//! common as pages full of it.
-use crate::page::{field, unit_place, Ask, Available, Page, Question, AUTO, FRACTION, NUMBERS, PIXELS};
+//! Random pages: all that 01 allows, and some that it refuses with 3. Each page has a mood, so that pages
+//! without a feature are as common as pages full of it.
+use crate::page::{
+    field, unit_place, Ask, Available, Page, Question, AUTO, FRACTION, NUMBERS, PIXELS, WORDS,
+};
 use crate::random::Random;
 
 /// The kind of numbers on a page.
@@ -33,6 +35,9 @@ const BLOCK: u32 = 0;
 const LEAF: u32 = 1;
 const HIDDEN: u32 = 2;
 
+/// Height, its minimum and maximum: beside a fraction in one of these 01 refuses a ratio.
+const HEIGHTS: [usize; 3] = [field::SIZE + 1, field::MIN + 1, field::MAX + 1];
+
 const MOST_PIXELS: f32 = 65_536.0;
 const MOST_NODES: u64 = 1_024;
 const MOST_DEPTH: usize = 32;
@@ -48,6 +53,8 @@ struct Mood {
     out_of_flow: u64,
     rtl: u64,
     fractions: u64,
+    /// Fractions of heights. Then more boxes have a height at all, so that there are parts of parts.
+    heights: u64,
     /// Numbers close to the limit, where results grow too large.
     large: u64,
     /// How often a child gets all that is left of the nodes, so that pages grow deep.
@@ -60,6 +67,9 @@ pub fn page(random: &mut Random) -> (Page, Figures) {
     let mood = mood(random, nodes);
     let mut maker = Maker { random, mood, words: Vec::new(), numbers: Vec::new() };
     maker.subtree(nodes, 1);
+    if maker.random.chance(2) {
+        maker.spoil(nodes);
+    }
     let question = maker.question();
     (Page { words: maker.words, numbers: maker.numbers, question }, maker.mood.figures)
 }
@@ -80,7 +90,7 @@ fn mood(random: &mut Random, nodes: usize) -> Mood {
     let mut either = |percent: u64, often: u64| if random.chance(percent) { often } else { 0 };
     let (scroll, relative) = (either(50, 20), either(50, 30));
     let (out_of_flow, rtl, fractions) = (either(60, 15), either(50, 40), either(60, 20));
-    let (large, chains) = (either(10, 80), either(20, 85));
+    let (heights, large, chains) = (either(50, 40), either(10, 80), either(20, 85));
     // Few nodes reach the limit without a ratio.
     let ratio = if large > 0 { 50 } else { either(40, 15) };
     Mood {
@@ -92,6 +102,7 @@ fn mood(random: &mut Random, nodes: usize) -> Mood {
         out_of_flow,
         rtl,
         fractions,
+        heights,
         large,
         chains,
         depth: if nodes < 32 { 9 } else { MOST_DEPTH },
@@ -145,13 +156,17 @@ impl Maker<'_> {
     fn node(&mut self, kind: u32, root: bool, nodes: usize) {
         let mut words = [nodes as u32, kind | self.style(root), 0, 0];
         let mut numbers = [0.0; NUMBERS];
+        let mut part_of_height = false;
         for field in 0..field::UNITS {
             let (unit, number) = self.length(field);
             let (word, at) = unit_place(field);
             words[word] |= unit << at;
             numbers[field] = number;
+            part_of_height |= HEIGHTS.contains(&field) && unit == FRACTION;
         }
-        if self.random.chance(self.mood.ratio) {
+        if part_of_height {
+            numbers[field::RATIO] = self.zero();
+        } else if self.random.chance(self.mood.ratio) {
             numbers[field::RATIO] = self.ratio();
         }
         if self.random.chance(60) {
@@ -165,6 +180,26 @@ impl Maker<'_> {
         }
         self.words.extend(words);
         self.numbers.extend(numbers);
+    }
+
+    /// Gives a node a ratio beside a fraction of a height, or another node a code that means nothing, or
+    /// both. Only -0 is no ratio.
+    fn spoil(&mut self, nodes: usize) {
+        let mut some_node = || self.random.below(nodes as u64) as usize;
+        let (node, other) = (some_node(), some_node());
+        if self.random.chance(80) {
+            let field = self.random.one_of(&HEIGHTS);
+            let (word, at) = unit_place(field);
+            let units = &mut self.words[WORDS * node + word];
+            *units = *units & !(3 << at) | FRACTION << at;
+            self.numbers[NUMBERS * node + field] = self.fraction();
+            self.numbers[NUMBERS * node + field::RATIO] =
+                self.random.one_of(&[-0.0, 1.0 / 64.0, 1.0, 64.0, 100.0, -1.0, f32::NAN]);
+        }
+        if self.random.chance(40) {
+            let (word, bit) = self.random.one_of(&[(1, 13), (1, 31), (2, 28), (2, 31), (3, 16), (3, 31)]);
+            self.words[WORDS * other + word] |= 1 << bit;
+        }
     }
 
     /// The style word without the kind.
@@ -197,7 +232,8 @@ impl Maker<'_> {
             let number = if self.random.chance(3) { self.pixels() } else { 0.0 };
             return (AUTO, number);
         }
-        let fraction = may_be_fraction(field) && self.random.chance(self.mood.fractions);
+        let often = if of_height(field) { self.mood.heights } else { self.mood.fractions };
+        let fraction = self.random.chance(often);
         let number = if fraction {
             self.fraction()
         } else if self.random.chance(zero) {
@@ -212,10 +248,12 @@ impl Maker<'_> {
     /// In how many of a hundred cases a field is auto, and in how many of the others 0 pixels.
     fn likely(&self, field: usize) -> (u64, u64) {
         let flat = self.mood.flat;
+        let no_height = if flat { 85 } else { 65 };
         // Sides go around from the top, so even ones are top and bottom.
         match (field, field % 2 == 0) {
             (field::WIDTH, _) => (65, 5),
-            (field::HEIGHT, _) => (if flat { 85 } else { 65 }, 12),
+            (field::HEIGHT, _) if self.mood.heights > 0 => (no_height - 25, 12),
+            (field::HEIGHT, _) => (no_height, 12),
             (2..=5, _) => (80, 25),
             (6..=9, true) => (7, 35),
             (6..=9, false) => (20, 45),
@@ -285,6 +323,7 @@ impl Maker<'_> {
     }
 
     fn question(&mut self) -> Question {
+        let asked_height = if self.mood.heights > 0 { 30 } else { 15 };
         Question {
             ask: match self.random.below(10) {
                 0 => Ask::Width,
@@ -292,8 +331,10 @@ impl Maker<'_> {
                 _ => Ask::Layout,
             },
             width: if self.random.chance(55) { Some(self.pixels()) } else { None },
-            height: if self.random.chance(15) { Some(self.pixels()) } else { None },
+            height: if self.random.chance(asked_height) { Some(self.pixels()) } else { None },
+            definite: self.random.chance(50),
             parent: Some(self.pixels()),
+            basis: None,
             available: match self.random.below(4) {
                 0 => Available::MinContent,
                 1 => Available::MaxContent,
@@ -310,7 +351,7 @@ fn may_be_negative(field: usize) -> bool {
     matches!(field, 6..=9 | 18..=21)
 }
 
-/// Not heights, nor top and bottom inset.
-fn may_be_fraction(field: usize) -> bool {
-    !matches!(field, 1 | 3 | 5 | 18 | 20)
+/// Heights, and top and bottom inset: their fractions are of a height.
+fn of_height(field: usize) -> bool {
+    matches!(field, 1 | 3 | 5 | 18 | 20)
 }

@@ -6,10 +6,13 @@ pub const OUT: u32 = 1 << 2;
 pub const HEIGHT_ASKED: u32 = 1 << 3;
 pub const PROBED: u32 = 1 << 4;
 pub const PROBE_HEIGHT: u32 = 1 << 7;
+pub const BASIS: u32 = 1 << 8;
 
-/// Every place, size and margin has to stay below this magnitude.
-const LIMIT: f32 = 16_777_216.0;
+/// Numbers of refusals.
+pub const BAD_STYLE: u32 = 3;
 const TOO_LARGE: u32 = 8;
+/// Every place, size, margin and basis has to stay below this magnitude.
+const LIMIT: f32 = 16_777_216.0;
 
 /// Equality is that of numbers: the two zeros are equal, and a NaN is equal to nothing.
 #[derive(Copy, Clone, PartialEq, Default)]
@@ -26,7 +29,7 @@ impl Row {
         self.bits &= LAID | THROUGH | OUT;
     }
     fn too_large(&self) -> bool {
-        self.numbers[..14].iter().any(|number| too_large(*number))
+        self.numbers[..15].iter().any(|number| too_large(*number))
     }
 }
 

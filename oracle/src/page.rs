@@ -92,8 +92,12 @@ pub struct Question {
     pub ask: Ask,
     pub width: Option<f32>,
     pub height: Option<f32>,
+    /// Whether the height that is asked is definite.
+    pub definite: bool,
     /// The width of the parent. At the root it is always there.
     pub parent: Option<f32>,
+    /// What a fraction of a height is a part of. At the root it is never there.
+    pub basis: Option<f32>,
     pub available: Available,
     /// Whether margins may collapse through the top and the bottom edge.
     pub start: bool,
@@ -117,6 +121,10 @@ impl Page {
     }
     pub fn number(&self, node: usize, field: usize) -> f32 {
         self.numbers[NUMBERS * node + field]
+    }
+    /// Words 1 to 3.
+    pub fn style_words(&self, node: usize) -> [u32; 3] {
+        [1, 2, 3].map(|word| self.words[WORDS * node + word])
     }
     pub fn unit(&self, node: usize, field: usize) -> u32 {
         let (word, at) = unit_place(field);

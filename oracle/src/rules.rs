@@ -29,6 +29,7 @@ rules! {
     10 ContentSum "content-sum"
     11 AskedNotRaised "asked-not-raised"
     12 ChildrenAskedSizes "children-asked-sizes"
+    13 StyledHeightBasis "styled-height-basis"
 }
 
 impl Rule {

@@ -1,8 +1,16 @@
 //! Makes a page smaller while it keeps a property, so that what is wrong with it can be read.
-use crate::page::{field, unit_place, Page, AUTO, NUMBERS, PIXELS, WORDS};
+use crate::page::{field, unit_place, Page, Question, AUTO, NUMBERS, PIXELS, WORDS};
 
 /// The bits of a style word after the kind.
 const STYLE_BITS: std::ops::Range<u32> = 2..13;
+
+/// What can be taken from a question.
+const QUESTION_STEPS: [fn(&mut Page); 4] = [
+    |page| page.question.height = None,
+    |page| page.question.definite = false,
+    |page| page.question.start = false,
+    |page| page.question.end = false,
+];
 
 pub fn shrink(mut page: Page, mut keeps: impl FnMut(&Page) -> bool) -> Page {
     loop {
@@ -12,6 +20,9 @@ pub fn shrink(mut page: Page, mut keeps: impl FnMut(&Page) -> bool) -> Page {
             if node < page.nodes() {
                 try_step(&mut page, without(node), &mut keeps);
             }
+        }
+        for step in QUESTION_STEPS {
+            try_step(&mut page, step, &mut keeps);
         }
         for node in 0..page.nodes() {
             for bit in STYLE_BITS {
@@ -35,13 +46,15 @@ fn try_step(page: &mut Page, step: impl Fn(&mut Page), keeps: &mut impl FnMut(&P
     }
 }
 
-/// How much there is to read: nodes, their styles, and fields that are not plain.
+/// How much there is to read: nodes, their styles, fields that are not plain, and the question.
 fn weight(page: &Page) -> u32 {
     let styles: u32 = page.words.chunks(WORDS).map(|words| 1 + words[1].count_ones()).sum();
     let numbers = page.numbers.iter().filter(|number| number.to_bits() != 0).count();
     let units =
         |node| (0..field::UNITS).filter(|field| page.unit(node, *field) != plain_unit(*field)).count();
-    styles + numbers as u32 + (0..page.nodes()).map(units).sum::<usize>() as u32
+    let Question { height, definite, start, end, .. } = page.question;
+    let question = [height.is_some(), definite, start, end].map(u32::from).iter().sum::<u32>();
+    question + styles + numbers as u32 + (0..page.nodes()).map(units).sum::<usize>() as u32
 }
 
 /// Takes away a node with all below it.

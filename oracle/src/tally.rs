@@ -23,7 +23,8 @@ pub struct Odd {
 #[derive(Default)]
 pub struct Tally {
     pages: Counts,
-    refused: Counts,
+    /// By the number of the refusal.
+    refused: BTreeMap<u32, Counts>,
     equal: Counts,
     unexplained: Counts,
     sets: BTreeMap<Rules, Counts>,
@@ -46,7 +47,7 @@ impl Tally {
             Ask::Width => self.widths += 1,
         }
         match verdict {
-            Verdict::Refused => self.refused[column] += 1,
+            Verdict::Refused(number) => self.refused.entry(number).or_default()[column] += 1,
             Verdict::Equal => self.equal[column] += 1,
             Verdict::Differs(rules) => self.sets.entry(rules).or_default()[column] += 1,
             Verdict::Unexplained(fault) => {
@@ -74,13 +75,15 @@ impl Tally {
             String::new(),
             line("numbers", "all", Figures::LIST.map(Figures::name)),
             counts_line("pages", &self.pages),
-            counts_line("refused, too large", &self.refused),
+        ];
+        lines.extend(self.refused.iter().map(refused_line));
+        lines.extend([
             counts_line("equal", &self.equal),
             counts_line("other answer, explained", &total(self.sets.values())),
             counts_line("unexplained", &self.unexplained),
             String::new(),
             "pages that need a rule (docs/DIFFERENCES.md):".to_string(),
-        ];
+        ]);
         lines.extend(Rule::LIST.iter().map(|rule| self.rule_line(*rule)));
         lines.push("\nby all the rules that a page needs, the most frequent first:".to_string());
         lines.extend(self.set_lines());
@@ -109,6 +112,10 @@ fn total<'a>(list: impl Iterator<Item = &'a Counts>) -> Counts {
         total.iter_mut().zip(counts).for_each(|(total, count)| *total += count);
         total
     })
+}
+
+fn refused_line((number, counts): (&u32, &Counts)) -> String {
+    counts_line(&format!("refused with {number}"), counts)
 }
 
 fn counts_line(name: &str, counts: &Counts) -> String {

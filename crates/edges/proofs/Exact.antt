@@ -7,7 +7,7 @@ use lib.ListN.{getD}
 use Rattle.style.specs.Codes.{flagAt}
 use Rattle.steps.specs.Scan.{lowest}
 use Rattle.steps.specs.Page.{nodesIn}
-use Rattle.steps.specs.Noes.{badTree, badCodes, refuseIf, andThen, atFault, no2, no3, no7}
+use Rattle.steps.specs.Noes.{badTree, badCodes, refuseIf, andThen, atFault, no2, no3By, no7}
 use Rattle.steps.specs.declared.Answer.the-variants.{Done, Lengths, Tree, Codes, Numbers, Room, Edits, NotLaid, TooLarge}
 use Rattle.steps.specs.declared.Tested.{Tested}
 use Rattle.steps.specs.declared.Tested.the-variants.{Pass, Refuse}
@@ -31,12 +31,12 @@ module _ (bad : Bool) (ws ms : List ℕ) where
   by-codes m t (At i) e = (m, t, lowest-at (badCodes ws) (nodesIn ws) (i .0) e)
   by-codes m t Nowhere e = by-root m t (lowest-nowhere (badCodes ws) (nodesIn ws) e) (flagAt (getD ms 1 0) 0) refl
 
-  by-tree : bad ≡ false → (f : Found) → lowest (badTree ws) (nodesIn ws) ≡ f → Due (andThen (atFault (λ i. Tree (record { 0 = i })) f) (andThen (no3 ws) (no7 ms)))
-  unfolding andThen atFault no3
+  by-tree : bad ≡ false → (f : Found) → lowest (badTree ws) (nodesIn ws) ≡ f → Due (andThen (atFault (λ i. Tree (record { 0 = i })) f) (andThen (no3By (badCodes ws) ws) (no7 ms)))
+  unfolding andThen atFault
   by-tree m (At i) e = (m, lowest-at (badTree ws) (nodesIn ws) (i .0) e)
   by-tree m Nowhere e = by-codes m (lowest-nowhere (badTree ws) (nodesIn ws) e) (lowest (badCodes ws) (nodesIn ws)) refl
 
-  by-lengths : (b : Bool) → bad ≡ b → Due (andThen (refuseIf b Lengths) (andThen (no2 ws) (andThen (no3 ws) (no7 ms))))
+  by-lengths : (b : Bool) → bad ≡ b → Due (andThen (refuseIf b Lengths) (andThen (no2 ws) (andThen (no3By (badCodes ws) ws) (no7 ms))))
   unfolding andThen no2
   by-lengths true e = e
   by-lengths false e = by-tree e (lowest (badTree ws) (nodesIn ws)) refl
@@ -47,11 +47,11 @@ module _ (bad : Bool) (ws ms : List ℕ) where
 
   pub laid-gives : (u : Tested) → Due u → laidTested bad ws ms ≡ u
   unfolding laidTested andThen no7
-  laid-gives Pass h = rw (h .lengths, tree-pass ws (h .tree), codes-pass ws (h .codes), h .root)
+  laid-gives Pass h = rw (h .lengths, tree-pass ws (h .tree), codes-pass ws (badCodes ws) (h .codes), h .root)
   laid-gives (Refuse Lengths) h = rw h
   laid-gives (Refuse (Tree i)) h = rw (h .0, tree-fault ws i (h .1))
-  laid-gives (Refuse (Codes i)) h = rw (h .0, tree-pass ws (h .1), codes-fault ws i (h .2))
-  laid-gives (Refuse NotLaid) h = rw (h .0, tree-pass ws (h .1), codes-pass ws (h .2), h .3)
+  laid-gives (Refuse (Codes i)) h = rw (h .0, tree-pass ws (h .1), codes-fault ws (badCodes ws) i (h .2))
+  laid-gives (Refuse NotLaid) h = rw (h .0, tree-pass ws (h .1), codes-pass ws (badCodes ws) (h .2), h .3)
   laid-gives (Refuse (Numbers k)) h = absurd h
   laid-gives (Refuse Room) h = absurd h
   laid-gives (Refuse (Edits k)) h = absurd h

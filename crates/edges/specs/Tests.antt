@@ -8,7 +8,7 @@ use lib.Dec.{eqb, ltb}
 use lib.Ieee.{Float}
 use Rattle.style.specs.Codes.{flagAt}
 use Rattle.steps.specs.Page.{nodesIn}
-use Rattle.steps.specs.Noes.{badRows, badTree, badCodes, refuseIf, andThen, no2, no3, no7}
+use Rattle.steps.specs.Noes.{badRows, badTree, badCodes, refuseIf, andThen, no2, no3By, no7}
 use Rattle.steps.specs.declared.Answer.{Answer}
 use Rattle.steps.specs.declared.Answer.the-variants.{Done, Lengths, Tree, Codes, Numbers, Room, Edits, NotLaid, TooLarge}
 use Rattle.steps.specs.declared.Tested.{Tested}
@@ -21,7 +21,7 @@ badWords ws = eqb (nodesIn ws) 0 || (ltb 1024 (nodesIn ws) || not (eqb (length w
 
 -- the tests in order, given whether 1 is due
 unfoldable pub laidTested : Bool → List ℕ → List ℕ → Tested
-laidTested misfit ws ms = andThen (refuseIf misfit Lengths) (andThen (no2 ws) (andThen (no3 ws) (no7 ms)))
+laidTested misfit ws ms = andThen (refuseIf misfit Lengths) (andThen (no2 ws) (andThen (no3By (badCodes ws) ws) (no7 ms)))
 
 -- 1 with rows and marks alone
 unfoldable pub rowsTested : List ℕ → List Float → List ℕ → Tested

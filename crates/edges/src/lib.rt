@@ -21,7 +21,7 @@ fn bad_words(words: &[u32]) -> bool
     words.len() != 4 * n
 }
 
-// 1, 2, 3 by the words alone, and 7.
+// 1, 2, 3 by the words alone (with no numbers there is no ratio), and 7.
 pub fn rows_tested(words: &[u32], rows: &[f32], marks: &[u32]) -> Tested
     ensures { λ r. ⌜ r ≡ rowsTested (now (words .entry)) (now (rows .entry)) (now (marks .entry)) ⌝ }
 {
@@ -34,7 +34,7 @@ pub fn rows_tested(words: &[u32], rows: &[f32], marks: &[u32]) -> Tested
     if let Tested::Refuse(a) = tables::tree_tested(words) {
         return Tested::Refuse(a);
     }
-    if let Tested::Refuse(a) = tables::codes_tested(words) {
+    if let Tested::Refuse(a) = tables::codes_tested(words, &rows[..0]) {
         return Tested::Refuse(a);
     }
     tables::root_tested(marks)

@@ -19,17 +19,18 @@ given b x = cond b (Some x) None
 unfoldable pub availableOf : ℕ → Float → AvailableSpace
 availableOf k x = pick4 k MaxContent (Definite x) MinContent MaxContent
 
--- bit 0 known width given, bit 1 known height given, bits 2-3 the kind of available width, bits 4 and 5 the two flags
+-- bit 0 known width given, bit 1 known height given, bits 2-3 the kind of available width, bits 4 and 5 the two flags, bit 7 known height definite
 unfoldable pub plainQuestion : Float → Float → Float → Float → ℕ → Question
 plainQuestion width height parent available how =
     record {
       known = record { width = given (flagAt how 0) width; height = given (flagAt how 1) height };
       parent = parent;
+      definiteHeight = flagAt how 7;
       available = availableOf (codeAt how 1) available;
       collapseStart = flagAt how 4;
       collapseEnd = flagAt how 5;
     }
 
--- bit 6: width only. Bits from 7 on mean nothing.
+-- bit 6: width only. Bits from 8 on mean nothing.
 unfoldable pub axisOf : ℕ → RequestedAxis
 axisOf how = cond (flagAt how 6) Horizontal Both

@@ -56,6 +56,7 @@ fn question(width: f32, height: f32, parent: f32, available: f32, how: u32) -> Q
     Question {
         known,
         parent,
+        definiteHeight: flag(how, 7),
         available: available_of(code(how, 1), available),
         collapseStart: flag(how, 4),
         collapseEnd: flag(how, 5),

@@ -52,6 +52,7 @@ checkedQuestion p =
     record {
       known = record { width = p .width; height = None };
       parent = ofBits binary32 (p .parent);
+      definiteHeight = false;
       available = MaxContent;
       collapseStart = p .flags;
       collapseEnd = p .flags;
@@ -77,7 +78,7 @@ unfoldable pub resultOf : Checked → List ℕ
 resultOf p = answerTo (p .asked) (p .words) (numbersOf (p .numbers) (replicate (27 * nodesIn (p .words)) zeroF)) (checkedQuestion p)
 
 -- ---- nodes: padding and border are pixels; to that come the fields with a length of their own
-abbrev height : ℕ
+abbrev pub height : ℕ
 height = 0x4
 
 abbrev minAndMaxWidth : ℕ
@@ -89,17 +90,17 @@ topMargin = 0x1000
 abbrev bottomMargin : ℕ
 bottomMargin = 0x10000
 
-abbrev block : ℕ → ℕ → List ℕ → List ℕ
+abbrev pub block : ℕ → ℕ → List ℕ → List ℕ
 block n fields rest = n ∷ 0 ∷ (0x5500000 + fields) ∷ 0x55 ∷ rest
 
 -- ---- pixels, as bits
 abbrev px1 : ℕ
 px1 = 0x3f80_0000
 
-abbrev px5 : ℕ
+abbrev pub px5 : ℕ
 px5 = 0x40a0_0000
 
-abbrev px10 : ℕ
+abbrev pub px10 : ℕ
 px10 = 0x4120_0000
 
 abbrev px11 : ℕ
@@ -108,35 +109,35 @@ px11 = 0x4130_0000
 abbrev px15 : ℕ
 px15 = 0x4170_0000
 
-abbrev px20 : ℕ
+abbrev pub px20 : ℕ
 px20 = 0x41a0_0000
 
 abbrev px25 : ℕ
 px25 = 0x41c8_0000
 
-abbrev px30 : ℕ
+abbrev pub px30 : ℕ
 px30 = 0x41f0_0000
 
 abbrev px35 : ℕ
 px35 = 0x420c_0000
 
-abbrev px40 : ℕ
+abbrev pub px40 : ℕ
 px40 = 0x4220_0000
 
-abbrev px50 : ℕ
+abbrev pub px50 : ℕ
 px50 = 0x4248_0000
 
-abbrev px60 : ℕ
+abbrev pub px60 : ℕ
 px60 = 0x4270_0000
 
-abbrev px100 : ℕ
+abbrev pub px100 : ℕ
 px100 = 0x42c8_0000
 
 abbrev px200 : ℕ
 px200 = 0x4348_0000
 
 -- below zero
-abbrev minus : ℕ → ℕ
+abbrev pub minus : ℕ → ℕ
 minus b = 0x8000_0000 + b
 
 abbrev hundred : OptionF32
@@ -195,7 +196,7 @@ page8 =
     }
 
 -- not of 01: three leaves of which the second has a margin of -60, so that tops are not sorted (crate index_facts); y and height of each row
-abbrev leaf : ℕ → List ℕ → List ℕ
+abbrev pub leaf : ℕ → List ℕ → List ℕ
 leaf fields rest = 1 ∷ 1 ∷ (0x5500000 + fields) ∷ 0x55 ∷ rest
 
 unfoldable pub unsorted : Checked

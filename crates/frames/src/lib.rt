@@ -3,6 +3,7 @@ ghost use mathlib.Core.Path.{_≡_};
 ghost use Rattle.style.specs.Flow.{isIn};
 ghost use Rattle.steps.specs.Context.{clips, isNormal, newContext, plainBlock};
 ghost use Rattle.steps.specs.Through.{openBox, hollowBox};
+ghost use Rattle.steps.specs.HeightBasis.{definiteOf, basisBelow};
 ghost use Rattle.steps.specs.Edges.{adjoins, ownEndOf, stepI, frameBy, frameOf};
 use geometry::Rect;
 use steps::Frame;
@@ -131,6 +132,29 @@ fn own_end(s: Style, flag: bool, padding: f32, border: f32, height: OptionF32) -
     false
 }
 
+// A known height that was not asked is definite, and one that is called so.
+fn definite_of(q: LayoutInput, height: OptionF32) -> OptionF32
+    ensures { λ r. ⌜ r ≡ definiteOf q height ⌝ }
+{
+    let asked = q.known;
+    let ah = asked.height;
+    if ah.is_some() {
+        if q.definiteHeight {
+            return height;
+        }
+        return OptionF32::None;
+    }
+    height
+}
+
+// What a fraction of a child's height is a part of.
+fn basis_below(q: LayoutInput, known: OptionSize, inset: Rect) -> OptionF32
+    ensures { λ r. ⌜ r ≡ basisBelow q known inset ⌝ }
+{
+    let height = known.height;
+    definite_of(q, height).maybe_sub(inset.vertical_axis_sum())
+}
+
 fn framed_by(
     s: Style,
     q: LayoutInput,
@@ -151,6 +175,7 @@ fn framed_by(
     let lo = min.height;
     let hi = max.height;
     let both = padding.add(border);
+    let inner = sizing::content_box_inset(s, zb);
     Frame {
         width,
         height,
@@ -158,7 +183,8 @@ fn framed_by(
         floor: both.vertical_axis_sum(),
         minHeight: lo,
         maxHeight: hi,
-        basis: sizing::content_basis(known, sizing::content_box_inset(s, zb)),
+        basis: sizing::content_basis(known, inner),
+        heightBasis: basis_below(q, known, inner),
         ownStart: edge_adjoins(s, q.collapseStart, padding.top, border.top),
         ownEnd: own_end(s, q.collapseEnd, padding.bottom, border.bottom, sh),
         hollow: is_hollow(s, q.nested, padding, border),
@@ -190,7 +216,8 @@ pub fn frame_of(s: Style, q: LayoutInput, found: f32) -> Frame
 {
     let parent = q.parent;
     let asked = q.known;
-    let z = sizing::sizing_of(s, parent);
+    let basis = q.basis;
+    let z = sizing::sizing_in(s, parent, basis);
     let known = sizing::known_dimensions(s, z, asked);
     let w = known.width;
     frame_by(s, q, z, known, w.unwrap_or(found))

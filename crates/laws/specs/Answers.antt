@@ -13,7 +13,7 @@ use Rattle.steps.specs.Row.{Row}
 use Rattle.steps.specs.Page.{nodesIn, pageOf, cellsOf}
 use Rattle.steps.specs.Layout.{relaid, fresh}
 use Rattle.steps.specs.Scan.{lowest, firstOf}
-use Rattle.steps.specs.Noes.{refuseIf, andThen, atFault, atSpot, no2, no3, no4, no5, no6, no7, pageTested, layoutTested, relayoutTested, badTables, badRows, badTree, badCodes, badNumbers, badQuestion, recordsIn, badEdit, badRow}
+use Rattle.steps.specs.Noes.{refuseIf, andThen, atFault, atSpot, no2, no3, no4, no5, no6, no7, pageTested, layoutTested, relayoutTested, badTables, badRows, badTree, badStyle, badNumbers, badQuestion, recordsIn, badEdit, badRow}
 use Rattle.steps.specs.Results.{Reply, rowsOut, marksOut, accepted, overLimit, replied, tested, layoutResult, relayoutResult}
 use Rattle.steps.specs.declared.LayoutInput.{LayoutInput}
 use Rattle.steps.specs.declared.Answer.{Answer}
@@ -72,9 +72,9 @@ fair-no2 : (ws : List ℕ) → Fair (no2 ws)
 unfolding no2
 fair-no2 ws = fair-fault (λ i. Tree (record { 0 = i })) (λ _. refl) (lowest (badTree ws) (nodesIn ws))
 
-fair-no3 : (ws : List ℕ) → Fair (no3 ws)
+fair-no3 : (ws : List ℕ) (xs : List Float) → Fair (no3 ws xs)
 unfolding no3
-fair-no3 ws = fair-fault (λ i. Codes (record { 0 = i })) (λ _. refl) (lowest (badCodes ws) (nodesIn ws))
+fair-no3 ws xs = fair-fault (λ i. Codes (record { 0 = i })) (λ _. refl) (lowest (badStyle ws xs) (nodesIn ws))
 
 fair-no4 : (ws : List ℕ) (xs : List Float) (q : LayoutInput) → Fair (no4 ws xs q)
 unfolding no4
@@ -98,7 +98,7 @@ fair-no7 ms = fair-if (not (flagAt (getD ms 1 0) 0)) NotLaid refl
 
 fair-page : (ws : List ℕ) (xs : List Float) (q : LayoutInput) → Fair (pageTested ws xs q)
 unfolding pageTested
-fair-page ws xs q = fair-then (no2 ws) _ (fair-no2 ws) (fair-then (no3 ws) (no4 ws xs q) (fair-no3 ws) (fair-no4 ws xs q))
+fair-page ws xs q = fair-then (no2 ws) _ (fair-no2 ws) (fair-then (no3 ws xs) (no4 ws xs q) (fair-no3 ws xs) (fair-no4 ws xs q))
 
 fair-layout : (ws : List ℕ) (xs rs : List Float) (ms cw : List ℕ) (cx : List Float) (q : LayoutInput) → Fair (layoutTested ws xs rs ms cw cx q)
 unfolding layoutTested

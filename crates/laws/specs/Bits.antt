@@ -29,72 +29,62 @@ use Rattle.steps.specs.declared.ProbeInput.{ProbeInput}
 use Rattle.steps.specs.declared.Frame.{Frame}
 use Rattle.steps.proofs.Codes.{kind-small, code-small}
 
--- a laid row's bits: through, known height given, and the probe code
-abbrev bitsOf : Bool → Bool → ℕ → ℕ
-bitsOf t h c = 1 + 2 * bit t + 8 * bit h + 16 * c
+-- a laid row's bits: through, known height given, the probe code, height basis given
+abbrev bitsOf : Bool → Bool → Bool → ℕ → ℕ
+bitsOf t h b c = 1 + 2 * bit t + 8 * bit h + 16 * c + 256 * bit b
 
-bits-laid : (t h : Bool) (c : ℕ) → bitsOf t h c / 1 % 2 ≡ 1
-bits-laid true true c = omega arith
-bits-laid true false c = omega arith
-bits-laid false true c = omega arith
-bits-laid false false c = omega arith
+-- a bit is below 2, which is all that the sums below want
+bit-small : (b : Bool) → bit b < 2
+bit-small true = omega arith
+bit-small false = omega arith
 
-bits-through : (t h : Bool) (c : ℕ) → bitsOf t h c / 2 % 2 ≡ bit t
-bits-through true true c = omega arith
-bits-through true false c = omega arith
-bits-through false true c = omega arith
-bits-through false false c = omega arith
+bits-laid : (t h b : Bool) (c : ℕ) → bitsOf t h b c / 1 % 2 ≡ 1
+bits-laid t h b c = let x = bit-small t in let y = bit-small h in let z = bit-small b in omega arith
 
-bits-given : (t h : Bool) (c : ℕ) → bitsOf t h c / 8 % 2 ≡ bit h
-bits-given true true c = omega arith
-bits-given true false c = omega arith
-bits-given false true c = omega arith
-bits-given false false c = omega arith
+bits-through : (t h b : Bool) (c : ℕ) → bitsOf t h b c / 2 % 2 ≡ bit t
+bits-through t h b c = let x = bit-small t in let y = bit-small h in let z = bit-small b in omega arith
 
-bits-code : (t h : Bool) (c : ℕ) → bitsOf t h c / 16 ≡ c
-bits-code true true c = omega arith
-bits-code true false c = omega arith
-bits-code false true c = omega arith
-bits-code false false c = omega arith
+bits-given : (t h b : Bool) (c : ℕ) → bitsOf t h b c / 8 % 2 ≡ bit h
+bits-given t h b c = let x = bit-small t in let y = bit-small h in let z = bit-small b in omega arith
 
-bits-low : (t h : Bool) (c : ℕ) → bitsOf t h c % 16 ≡ 1 + 2 * bit t + 8 * bit h
-bits-low true true c = omega arith
-bits-low true false c = omega arith
-bits-low false true c = omega arith
-bits-low false false c = omega arith
+bits-code : (t h b : Bool) (c : ℕ) → bitsOf t h b c / 16 ≡ c + 16 * bit b
+bits-code t h b c = let x = bit-small t in let y = bit-small h in let z = bit-small b in omega arith
 
-bits-high : (t h : Bool) (c : ℕ) → c < 16 → bitsOf t h c / 256 ≡ 0
-bits-high true true c p = omega arith
-bits-high true false c p = omega arith
-bits-high false true c p = omega arith
-bits-high false false c p = omega arith
+bits-low : (t h b : Bool) (c : ℕ) → bitsOf t h b c % 16 ≡ 1 + 2 * bit t + 8 * bit h
+bits-low t h b c = let x = bit-small t in let y = bit-small h in let z = bit-small b in omega arith
+
+bits-high : (t h b : Bool) (c : ℕ) → c < 16 → bitsOf t h b c / 256 ≡ bit b
+bits-high t h b c p = let x = bit-small t in let y = bit-small h in let z = bit-small b in omega arith
+
+bits-based : (t h b : Bool) (c : ℕ) → c < 16 → bitsOf t h b c / 256 % 2 ≡ bit b
+bits-based t h b c p = let x = bit-small t in let y = bit-small h in let z = bit-small b in omega arith
 
 is-bit : (b : Bool) → eqb (bit b) 1 ≡ b
 is-bit true = refl
 is-bit false = refl
 
-bits-kept : (t h : Bool) (c d : ℕ) → c < 16 → withCode (bitsOf t h c) d ≡ bitsOf t h d
+bits-kept : (t h b : Bool) (c d : ℕ) → c < 16 → withCode (bitsOf t h b c) d ≡ bitsOf t h b d
 unfolding withCode
-bits-kept t h c d p = rw (bits-low t h c, bits-high t h c p) (omega arith)
+bits-kept t h b c d p = rw (bits-low t h b c, bits-high t h b c p) (omega arith)
 
-bits-below : (t h : Bool) (c d : ℕ) → c < 16 → laidBits (bitsOf t h c) d ≡ bitsOf t h d
+bits-below : (t h b : Bool) (c d : ℕ) → c < 16 → laidBits (bitsOf t h b c) d ≡ bitsOf t h b d
 unfolding laidBits
-bits-below t h c d p = rw (bits-through t h c, bits-given t h c, bits-high t h c p) (omega arith)
+bits-below t h b c d p = rw (bits-through t h b c, bits-given t h b c, bits-high t h b c p) (omega arith)
 
 -- a laid row, wherever it is placed: laid, its answer, its probe words
 pub laid-row : (q : LayoutInput) (o : LayoutOutput) (p : ProbeWords) → isLaid (laidRow q o p) ≡ true
 unfolding isLaid laidRow
-laid-row q o p = rw (bits-laid (o .through) (isSome (q .known .height)) (p .code))
+laid-row q o p = rw (bits-laid (o .through) (isSome (q .known .height)) (isSome (q .basis)) (p .code))
 
 pub out-row : (q : LayoutInput) (o : LayoutOutput) (p : ProbeWords) (x : Point) (n : ℕ) → outputIn (putAt x n (laidRow q o p)) ≡ o
 unfolding outputIn putAt laidRow
-out-row q o p x n = rw (bits-through (o .through) (isSome (q .known .height)) (p .code), is-bit (o .through))
+out-row q o p x n = rw (bits-through (o .through) (isSome (q .known .height)) (isSome (q .basis)) (p .code), is-bit (o .through))
 
 pub words-row : (q : LayoutInput) (o : LayoutOutput) (p : ProbeWords) → p .code < 16 → probeOf (laidRow q o p) ≡ p
 unfolding probeOf laidRow
 words-row q o p h =
-    let e : p .code % 16 ≡ p .code = omega arith in
-    rw (bits-code (o .through) (isSome (q .known .height)) (p .code), e)
+    let e : (p .code + 16 * bit (isSome (q .basis))) % 16 ≡ p .code = omega arith in
+    rw (bits-code (o .through) (isSome (q .known .height)) (isSome (q .basis)) (p .code), e)
 
 pub row-small : (r : Row) → probeOf r .code < 16
 unfolding probeOf
@@ -104,7 +94,7 @@ row-small r = omega arith
 kept-words : (r : Row) (w p : ProbeWords) (q : LayoutInput) (o : LayoutOutput) (x y : Point) (m n : ℕ) → r ≡ putAt x m (laidRow q o p) → p .code < 16
     → putAt y n (noted r w (withCode (r .bits) (w .code))) ≡ putAt y n (laidRow q o w)
 unfolding putAt noted laidRow
-kept-words r w p q o x y m n e h = rw e (rw (bits-kept (o .through) (isSome (q .known .height)) (p .code) (w .code) h))
+kept-words r w p q o x y m n e h = rw e (rw (bits-kept (o .through) (isSome (q .known .height)) (isSome (q .basis)) (p .code) (w .code) h))
 
 pub kept-row : (l : Node) (p : ProbeWords) (q : LayoutInput) (o : LayoutOutput) (x y : Point) (m n : ℕ) → l .old ≡ putAt x m (laidRow q o p) → p .code < 16
     → putAt y n (keptRow l) ≡ putAt y n (laidRow q o (l .probe))
@@ -114,7 +104,7 @@ kept-row l p q o x y m n e h = kept-words (l .old) (l .probe) p q o x y m n e h
 below-words : (r : Row) (w p : ProbeWords) (q : LayoutInput) (o : LayoutOutput) (x : Point) (m : ℕ) → r ≡ putAt x m (laidRow q o p) → p .code < 16
     → noted r w (laidBits (r .bits) (w .code)) ≡ putAt x m (laidRow q o w)
 unfolding putAt noted laidRow
-below-words r w p q o x m e h = rw e (rw (bits-below (o .through) (isSome (q .known .height)) (p .code) (w .code) h))
+below-words r w p q o x m e h = rw e (rw (bits-below (o .through) (isSome (q .known .height)) (isSome (q .basis)) (p .code) (w .code) h))
 
 pub below-row : (l : Node) (p : ProbeWords) (q : LayoutInput) (o : LayoutOutput) (x : Point) (m : ℕ) → l .old ≡ putAt x m (laidRow q o p) → p .code < 16
     → belowRow l ≡ putAt x m (laidRow q o (l .probe))
@@ -168,24 +158,32 @@ some-is : (v w : Float) → orZero (Some v) ≡ orZero (Some w) → v ≡ w
 unfolding orZero
 some-is v w e = e
 
-same-input : (v w i j : Float) (h k : OptionF32) (b : Bool) → v ≡ w → i ≡ j → h ≡ k
-    → _≡_ {A = LayoutInput} (record { known = record { width = Some v; height = h }; parent = Some i; available = MaxContent; collapseStart = b; collapseEnd = b; nested = true }) (record { known = record { width = Some w; height = k }; parent = Some j; available = MaxContent; collapseStart = b; collapseEnd = b; nested = true })
-same-input v w i j h k b p q r = rw (p, q, r)
+abbrev asks : Float → Float → OptionF32 → OptionF32 → Bool → LayoutInput
+asks w i h u b =
+    record { known = record { width = Some w; height = h }; parent = Some i; basis = u; definiteHeight = true; available = MaxContent; collapseStart = b; collapseEnd = b; nested = true }
 
-pub final-is : (f g : Frame) (s : Style) (o : LayoutOutput) (p : ProbeWords) (x : Point) (n : ℕ) (r : Row) → r ≡ putAt x n (laidRow (questionTo g s) o p) → finalStands (questionTo f s) r ≡ true → questionTo f s ≡ questionTo g s
+same-input : (v w i j : Float) (h k u x : OptionF32) (b : Bool) → v ≡ w → i ≡ j → h ≡ k → u ≡ x → asks v i h u b ≡ asks w j k x b
+same-input v w i j h k u x b p q r s = rw (p, q, r, s)
+
+pub final-is : (f g : Frame) (s : Style) (o : LayoutOutput) (p : ProbeWords) (x : Point) (n : ℕ) (r : Row) → r ≡ putAt x n (laidRow (questionTo g s) o p) → p .code < 16 → finalStands (questionTo f s) r ≡ true → questionTo f s ≡ questionTo g s
 unfolding finalStands questionTo childInput putAt laidRow
-final-is f g s o p x n r e h =
+final-is f g s o p x n r e c h =
     let a = itemOf f s in
     let b = itemOf g s in
     let h1 = and-snd (isLaid r) _ h in
     let h2 = and-snd (sameF (r .asked .width) _) _ h1 in
     let h3 = and-snd (sameF (r .asked .height) _) _ h2 in
+    let h4 = and-snd (Bool·beq (flagAt (r .bits) 3) _) _ h3 in
+    let h5 = and-snd (sameF (r .asked .parent) _) _ h4 in
     let w : r .asked .width ≡ orZero (Some (askedWidth f a)) = same-is _ _ (and-fst (sameF (r .asked .width) _) _ h1) in
-    let i : r .asked .parent ≡ orZero (Some (innerWidth f)) = same-is _ _ (and-snd (Bool·beq (flagAt (r .bits) 3) _) _ h3) in
+    let i : r .asked .parent ≡ orZero (Some (innerWidth f)) = same-is _ _ (and-fst (sameF (r .asked .parent) _) _ h4) in
     let k : sameF (orZero (askedHeight b)) (orZero (askedHeight a)) ≡ true = ap (λ (v : Float). sameF v (orZero (askedHeight a))) (sym (ap (λ (z : Row). z .asked .height) e)) ∙ and-fst (sameF (r .asked .height) _) _ h2 in
     let m : flagAt (r .bits) 3 ≡ isSome (askedHeight a) = beq-is _ _ (and-fst (Bool·beq (flagAt (r .bits) 3) _) _ h3) in
-    let z : isSome (askedHeight b) ≡ isSome (askedHeight a) = sym (ap (λ (v : Row). flagAt (v .bits) 3) e ∙ rw (bits-given (o .through) (isSome (askedHeight b)) (p .code), is-bit (isSome (askedHeight b)))) ∙ m in
-    same-input _ _ _ _ _ _ _ (some-is _ _ (sym w ∙ ap (λ (v : Row). v .asked .width) e)) (some-is _ _ (sym i ∙ ap (λ (v : Row). v .asked .parent) e)) (sym (option-is _ _ k z))
+    let z : isSome (askedHeight b) ≡ isSome (askedHeight a) = sym (ap (λ (v : Row). flagAt (v .bits) 3) e ∙ rw (bits-given (o .through) (isSome (askedHeight b)) (isSome (g .heightBasis)) (p .code), is-bit (isSome (askedHeight b)))) ∙ m in
+    let u : sameF (orZero (g .heightBasis)) (orZero (f .heightBasis)) ≡ true = ap (λ (v : Float). sameF v (orZero (f .heightBasis))) (sym (ap (λ (z : Row). z .asked .basis) e)) ∙ and-fst (sameF (r .asked .basis) _) _ h5 in
+    let t : flagAt (r .bits) 8 ≡ isSome (f .heightBasis) = beq-is _ _ (and-snd (sameF (r .asked .basis) _) _ h5) in
+    let y : isSome (g .heightBasis) ≡ isSome (f .heightBasis) = sym (ap (λ (v : Row). flagAt (v .bits) 8) e ∙ rw (bits-based (o .through) (isSome (askedHeight b)) (isSome (g .heightBasis)) (p .code) c, is-bit (isSome (g .heightBasis)))) ∙ t in
+    same-input _ _ _ _ _ _ _ _ _ (some-is _ _ (sym w ∙ ap (λ (v : Row). v .asked .width) e)) (some-is _ _ (sym i ∙ ap (λ (v : Row). v .asked .parent) e)) (sym (option-is _ _ k z)) (sym (option-is _ _ u y))
 
 -- the same of a probe: its three numbers and code settle what stands
 code-on : (b c : ℕ) → b / 16 % 16 ≡ c → b / 16 % 2 ≡ c % 2

@@ -48,7 +48,7 @@ abbrev high : ℕ → Style
 high h = styleAt (1 ∷ 0 ∷ 0x5500004 ∷ 0x55 ∷ []) 0 (zeroF ∷ ofBits binary32 h ∷ []) 0
 
 abbrev asked : LayoutInput
-asked = record { known = record { width = Some (ofBits binary32 0x42c8_0000); height = None }; parent = Some (ofBits binary32 0x42c8_0000); available = MaxContent; collapseStart = false; collapseEnd = false; nested = false }
+asked = record { known = record { width = Some (ofBits binary32 0x42c8_0000); height = None }; parent = Some (ofBits binary32 0x42c8_0000); basis = None; definiteHeight = false; available = MaxContent; collapseStart = false; collapseEnd = false; nested = false }
 
 -- one box, 10 high, then 20
 abbrev boxRow : Row

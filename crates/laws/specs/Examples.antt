@@ -25,7 +25,7 @@ bitsOf l = map (toBits binary32) l
 
 -- A root of width 100 over a box A and a block B with a box C. A grows from 10 to 20, so B moves down; B is kept.
 unfoldable pub wide : LayoutInput
-wide = record { known = record { width = Some (ofBits binary32 0x42c8_0000); height = None }; parent = Some (ofBits binary32 0x42c8_0000); available = MaxContent; collapseStart = false; collapseEnd = false; nested = false }
+wide = record { known = record { width = Some (ofBits binary32 0x42c8_0000); height = None }; parent = Some (ofBits binary32 0x42c8_0000); basis = None; definiteHeight = false; available = MaxContent; collapseStart = false; collapseEnd = false; nested = false }
 
 unfoldable pub stackWords : List ℕ
 stackWords = 4 ∷ 0 ∷ 0x5500000 ∷ 0x55 ∷ 1 ∷ 0 ∷ 0x5500004 ∷ 0x55 ∷ 2 ∷ 0 ∷ 0x5500000 ∷ 0x55 ∷ 1 ∷ 0 ∷ 0x5500004 ∷ 0x55 ∷ []
@@ -65,7 +65,7 @@ stack-again = (refl, refl)
 
 -- A root of unknown width over a block A with a leaf of 30 to 40, and a box of width 60. A is probed: 40. The box grows to 80.
 unfoldable pub free : LayoutInput
-free = record { known = record { width = None; height = None }; parent = Some (ofBits binary32 0x42c8_0000); available = MaxContent; collapseStart = false; collapseEnd = false; nested = false }
+free = record { known = record { width = None; height = None }; parent = Some (ofBits binary32 0x42c8_0000); basis = None; definiteHeight = false; available = MaxContent; collapseStart = false; collapseEnd = false; nested = false }
 
 unfoldable pub probeWords : List ℕ
 probeWords = 4 ∷ 0 ∷ 0x5500000 ∷ 0x55 ∷ 2 ∷ 0 ∷ 0x5500000 ∷ 0x55 ∷ 1 ∷ 1 ∷ 0x5500000 ∷ 0x55 ∷ 1 ∷ 0 ∷ 0x5500005 ∷ 0x55 ∷ []

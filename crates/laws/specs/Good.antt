@@ -24,7 +24,7 @@ use Rattle.steps.specs.declared.Cursor.{Cursor}
 use Rattle.steps.proofs.Zeros.{no-row}
 use Rattle.laws.specs.Trees.{AllT, AllF, all-any-F, all-map-T, all-map-F, all-back-T, all-back-F, not-true}
 use Rattle.laws.specs.Final.{bareN, Alike, SoundT, SoundF, Unlaid, unlaid-T, unlaid-F}
-use Rattle.laws.specs.Bits.{final-is, hidden-row, aside-row}
+use Rattle.laws.specs.Bits.{final-is, row-small, hidden-row, aside-row}
 use Rattle.laws.specs.Pages.{siteBy, Honest, LeavesT, LeavesF}
 use Rattle.laws.specs.Along.{Full, oldF, viewN, RowsT, RowsF, own-row, down, down-leaf, along-gone, along-out, along-in}
 use Rattle.laws.specs.Fix.{nowF, wasF, oldWords, againN, afterN, siteF, keep-alike, seenN}
@@ -86,7 +86,7 @@ sound-here l ks g p n e h v f k =
     let s : AllT Same (node l ks) = same-T (node l ks) h (z .0) in
     let e1 : Rows (node l ks) wasF (questionTo g (nowF l)) p n = at-style _ _ g p n _ _ (top-same l ks s) e in
     let e2 : Rows (node l ks) nowF (questionTo g (nowF l)) p n = rw (clean-T (node l ks) s) at e1 in
-    let q : questionTo f (nowF l) ≡ questionTo g (nowF l) = final-is f g (nowF l) _ (oldWords l) p n (l .both .old) (own-row nowF oldWords l ks (questionTo g (nowF l)) zeroF p n e2) (z .1) in
+    let q : questionTo f (nowF l) ≡ questionTo g (nowF l) = final-is f g (nowF l) _ (oldWords l) p n (l .both .old) (own-row nowF oldWords l ks (questionTo g (nowF l)) zeroF p n e2) (row-small (l .both .old)) (z .1) in
     rw q (keep-alike l ks (questionTo g (nowF l)) p n e2 v)
 
 -- rows that are not laid

@@ -111,14 +111,15 @@ availLine l = keyed avail= l availText avail.Bad
 unfoldable pub flagOf : List ℕ → Value
 flagOf s = cond (eqb (length s) 1) (valueOf 10 1 s) value.Bad
 
-unfoldable pub flagsOf : Value → Value → FlagsLine
-flagsOf value.Bad b = flags.Bad
-flagsOf (value.Is a) value.Bad = flags.Bad
-flagsOf (value.Is a) (value.Is b) = flags.Is (record { collapseStart = eqb a 1; collapseEnd = eqb b 1 })
+unfoldable pub flagsOf : Value → Value → Value → FlagsLine
+flagsOf value.Bad b c = flags.Bad
+flagsOf (value.Is a) value.Bad c = flags.Bad
+flagsOf (value.Is a) (value.Is b) value.Bad = flags.Bad
+flagsOf (value.Is a) (value.Is b) (value.Is c) = flags.Is (record { collapseStart = eqb a 1; collapseEnd = eqb b 1; definiteHeight = eqb c 1 })
 
--- lines= and two flags
+-- lines= and three flags
 unfoldable pub flagsText : List ℕ → FlagsLine
-flagsText s = fielded 2 s (flagsOf (flagOf (fieldOf s 0)) (flagOf (fieldOf s 1))) flags.Bad
+flagsText s = fielded 3 s (flagsOf (flagOf (fieldOf s 0)) (flagOf (fieldOf s 1)) (flagOf (fieldOf s 2))) flags.Bad
 
 unfoldable pub flagsLine : List ℕ → FlagsLine
 flagsLine l = keyed lines= l flagsText flags.Bad

@@ -28,10 +28,11 @@ pub enum AvailLine {
     Is(AvailableSpace),
 }
 
-// The two flags of lines=.
+// The three flags of lines=.
 pub struct Flags {
     pub collapseStart: bool,
     pub collapseEnd: bool,
+    pub definiteHeight: bool,
 }
 
 // lines=
@@ -207,17 +208,21 @@ pub fn known_line(s: &[u8]) -> KnownLine
     KnownLine::Bad
 }
 
-fn flags_of(a: Value, b: Value) -> FlagsLine
-    ensures { λ r. ⌜ r ≡ flagsOf a b ⌝ }
+fn flags_of(a: Value, b: Value, c: Value) -> FlagsLine
+    ensures { λ r. ⌜ r ≡ flagsOf a b c ⌝ }
 {
     match a {
         Value::Bad => FlagsLine::Bad,
         Value::Is(a) => match b {
             Value::Bad => FlagsLine::Bad,
-            Value::Is(b) => FlagsLine::Is(Flags {
-                collapseStart: a == 1,
-                collapseEnd: b == 1,
-            }),
+            Value::Is(b) => match c {
+                Value::Bad => FlagsLine::Bad,
+                Value::Is(c) => FlagsLine::Is(Flags {
+                    collapseStart: a == 1,
+                    collapseEnd: b == 1,
+                    definiteHeight: c == 1,
+                }),
+            },
         },
     }
 }
@@ -225,10 +230,10 @@ fn flags_of(a: Value, b: Value) -> FlagsLine
 fn flags_text(s: &[u8]) -> FlagsLine
     ensures { λ r. ⌜ r ≡ flagsText (now (s .entry)) ⌝ }
 {
-    if text::separators(s, b',') != 1 {
+    if text::separators(s, b',') != 2 {
         return FlagsLine::Bad;
     }
-    flags_of(flag_field(s, 0), flag_field(s, 1))
+    flags_of(flag_field(s, 0), flag_field(s, 1), flag_field(s, 2))
 }
 
 // lines=

@@ -24,7 +24,15 @@ use Rattle.page.specs.declared.HeadLines.the-variants.{Bad, Is}
 
 -- the question as written: of a root, with a parent width
 unfoldable pub headQuestion : Float → OptionSize → AvailableSpace → Flags → Question
-headQuestion p k a f = record { known = k; parent = p; available = a; collapseStart = f .collapseStart; collapseEnd = f .collapseEnd }
+headQuestion p k a f =
+    record {
+      known = k;
+      parent = p;
+      definiteHeight = f .definiteHeight;
+      available = a;
+      collapseStart = f .collapseStart;
+      collapseEnd = f .collapseEnd;
+    }
 
 -- line 5: lines=
 unfoldable pub flagsIn : ℕ → Float → OptionSize → AvailableSpace → FlagsLine → HeadLines

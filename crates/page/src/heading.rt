@@ -22,6 +22,7 @@ fn question(parent: f32, known: OptionSize, available: AvailableSpace, f: Flags)
     Question {
         known,
         parent,
+        definiteHeight: f.definiteHeight,
         available,
         collapseStart: f.collapseStart,
         collapseEnd: f.collapseEnd,

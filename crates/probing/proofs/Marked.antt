@@ -24,7 +24,7 @@ use Rattle.steps.proofs.Clauses.{styleT, layT-leaf, layT-block, layF-gone, layF
 use Rattle.steps.proofs.Zeros.{zeros-T, zeros-F}
 use Rattle.rows.specs.Store.{unlaid}
 use Rattle.probing.specs.Passed.{passedRow, markedCell}
-use Rattle.probing.proofs.ProbeBits.{code-back, flag-0, flag-1, flag-3, flag-gone, bits-below}
+use Rattle.probing.proofs.ProbeBits.{code-back, flag-0, flag-1, flag-3, flag-8, flag-gone, bits-below}
 use Rattle.probing.proofs.PassedRows.{same-note}
 
 -- what the final pass takes a node for
@@ -45,15 +45,15 @@ pub probe-back : (l : Node) → l .probe .code < 16 → probeOf (passedRow l) �
 unfolding probeOf passedRow noted
 probe-back l h = rw (code-back (cond (l .anew) (unlaid (l .old .bits)) (l .old .bits)) (l .probe .code) h)
 
-stands-by : (q : LayoutInput) (r : Row) (p : ProbeWords) (v : Bool) → finalStands q (noted r p (withCode (cond v (unlaid (r .bits)) (r .bits)) (p .code))) ≡ (not v && finalStands q r)
+stands-by : (q : LayoutInput) (r : Row) (p : ProbeWords) (v : Bool) → p .code < 16 → finalStands q (noted r p (withCode (cond v (unlaid (r .bits)) (r .bits)) (p .code))) ≡ (not v && finalStands q r)
 unfolding finalStands noted isLaid
-stands-by q r p true = rw (flag-gone (r .bits) (p .code))
-stands-by q r p false = rw (flag-0 (r .bits) (p .code), flag-3 (r .bits) (p .code))
+stands-by q r p true h = rw (flag-gone (r .bits) (p .code))
+stands-by q r p false h = rw (flag-0 (r .bits) (p .code), flag-3 (r .bits) (p .code), flag-8 (r .bits) (p .code) h)
 
 -- the mark is the veto
-pub stands-marked : (q : LayoutInput) (l : Node) → (not (marked l .anew) && finalStands q (marked l .old)) ≡ (not (l .anew) && finalStands q (l .old))
+pub stands-marked : (q : LayoutInput) (l : Node) → l .probe .code < 16 → (not (marked l .anew) && finalStands q (marked l .old)) ≡ (not (l .anew) && finalStands q (l .old))
 unfolding staying markedCell passedRow
-stands-marked q l = stands-by q (l .old) (l .probe) (l .anew)
+stands-marked q l h = stands-by q (l .old) (l .probe) (l .anew) h
 
 kept-by : (r : Row) (p : ProbeWords) (v : Bool) → v ≡ false → noted r p (withCode (cond v (unlaid (r .bits)) (r .bits)) (p .code)) ≡ noted r p (withCode (r .bits) (p .code))
 kept-by r p v e = ap (λ (b : Bool). noted r p (withCode (cond b (unlaid (r .bits)) (r .bits)) (p .code))) e
@@ -127,11 +127,11 @@ mutual
   fix-F (more t ts) h = rw (mapF-more marked t ts, fixF-more, fixF-more, fix-T t (h .0), fix-F ts (h .1))
 
 -- what is kept, and that it is as it was
-kept-node : (l : Node) (ks : Forest Node) (q : LayoutInput) → kept (mapT marked (node l ks)) q ≡ kept (node l ks) q
+kept-node : (l : Node) (ks : Forest Node) (q : LayoutInput) → l .probe .code < 16 → kept (mapT marked (node l ks)) q ≡ kept (node l ks) q
 unfolding kept
-kept-node l ks q =
+kept-node l ks q h =
     let r : rootT (mapT marked (node l ks)) ≡ marked l = rootT-map marked (node l ks) ∙ ap marked (rootT-node l ks) in
-    rw (any-marked (node l ks), r, rootT-node l ks) (ap (λ (b : Bool). not (anyT editedNode (node l ks)) && b) (stands-marked q l))
+    rw (any-marked (node l ks), r, rootT-node l ks) (ap (λ (b : Bool). not (anyT editedNode (node l ks)) && b) (stands-marked q l h))
 
 not-anew : (a b c : Bool) → (not a && (not b && c)) ≡ true → b ≡ false
 not-anew a false c e = refl
@@ -146,14 +146,14 @@ keep-marked : (l : Node) (ks : Forest Node) → l .anew ≡ false → fixF (mapF
 unfolding keep
 keep-marked l ks e i = rw (mapT-node marked l ks, out-marked l e, kept-marked l e, i)
 
-ask-node : (l : Node) (ks : Forest Node) (q : LayoutInput) (b : Bool) → kept (node l ks) q ≡ b → fixF (mapF marked ks) ≡ fixF ks → layT (mapT marked (node l ks)) q zeroF ≡ layT (node l ks) q zeroF
+ask-node : (l : Node) (ks : Forest Node) (q : LayoutInput) (b : Bool) → l .probe .code < 16 → kept (node l ks) q ≡ b → fixF (mapF marked ks) ≡ fixF ks → layT (mapT marked (node l ks)) q zeroF ≡ layT (node l ks) q zeroF
     → askT (mapT marked (node l ks)) q ≡ askT (node l ks) q
-ask-node l ks q true e i h = askT-kept (mapT marked (node l ks)) q (kept-node l ks q ∙ e) ∙ keep-marked l ks (kept-new l ks q e) i ∙ sym (askT-kept (node l ks) q e)
-ask-node l ks q false e i h = askT-new (mapT marked (node l ks)) q (kept-node l ks q ∙ e) ∙ h ∙ sym (askT-new (node l ks) q e)
+ask-node l ks q true s e i h = askT-kept (mapT marked (node l ks)) q (kept-node l ks q s ∙ e) ∙ keep-marked l ks (kept-new l ks q e) i ∙ sym (askT-kept (node l ks) q e)
+ask-node l ks q false s e i h = askT-new (mapT marked (node l ks)) q (kept-node l ks q s ∙ e) ∙ h ∙ sym (askT-new (node l ks) q e)
 
 ask-of : (t : Tree Node) → CodesT t → (q : LayoutInput) → layT (mapT marked t) q zeroF ≡ layT t q zeroF → askT (mapT marked t) q ≡ askT t q
 unfolding CodesT
-ask-of (node l ks) h q i = ask-node l ks q (kept (node l ks) q) refl (fix-F ks (h .1)) i
+ask-of (node l ks) h q i = ask-node l ks q (kept (node l ks) q) (h .0) refl (fix-F ks (h .1)) i
 
 -- one node, and one child of the stack
 leaf-marked : (l : Node) (ks : Forest Node) (q : LayoutInput) → l .probe .code < 16 → leafLaid (marked l) q (mapF marked ks) ≡ leafLaid l q ks

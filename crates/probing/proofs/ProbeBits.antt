@@ -58,6 +58,9 @@ flag-1 b c = ap (λ (n : ℕ). eqb n 1) (second b c)
 pub flag-3 : (b c : ℕ) → flagAt (withCode b c) 3 ≡ flagAt b 3
 flag-3 b c = ap (λ (n : ℕ). eqb n 1) (fourth b c)
 
+pub flag-8 : (b c : ℕ) → c < 16 → flagAt (withCode b c) 8 ≡ flagAt b 8
+flag-8 b c h = ap (λ (n : ℕ). eqb (n % 2) 1) (high b c h)
+
 pub flag-gone : (b c : ℕ) → flagAt (withCode (unlaid b) c) 0 ≡ false
 flag-gone b c = ap (λ (n : ℕ). eqb n 1) (one (withCode (unlaid b) c) ∙ low (unlaid b) c ∙ low-gone b)
 

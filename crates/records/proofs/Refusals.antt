@@ -10,7 +10,7 @@ use Rattle.style.specs.Codes.{flagAt}
 use Rattle.steps.specs.Scan.{lowest, firstOf}
 use Rattle.steps.specs.Page.{nodesIn, pageOf}
 use Rattle.steps.specs.Candidates.{needed}
-use Rattle.steps.specs.Noes.{paper, badTables, badRows, badTree, badCodes, badNumbers, badQuestion, badEdit, recordsIn, refuseIf, andThen, atFault, atSpot, no2, no3, no4, no5, no6, no7, pageTested, layoutTested, relayoutTested}
+use Rattle.steps.specs.Noes.{paper, badTables, badRows, badTree, badStyle, badNumbers, badQuestion, badEdit, recordsIn, refuseIf, andThen, atFault, atSpot, no2, no3, no4, no5, no6, no7, pageTested, layoutTested, relayoutTested}
 use Rattle.steps.specs.declared.LayoutInput.{LayoutInput}
 use Rattle.steps.specs.declared.Answer.{Answer}
 use Rattle.steps.specs.declared.Answer.the-variants.{Lengths, Tree, Codes, Numbers, Room, Edits, NotLaid}
@@ -60,7 +60,7 @@ page-refuses : (ws : List ℕ) (xs : List Float) (q : LayoutInput) → Refuses (
 unfolding pageTested no2 no3 no4 paper
 page-refuses ws xs q =
     then-refuses _ _ (fault-refuses (λ i. Tree (record { 0 = i })) (λ i. refl) (lowest (badTree ws) (nodesIn ws)))
-    (then-refuses _ _ (fault-refuses (λ i. Codes (record { 0 = i })) (λ i. refl) (lowest (badCodes ws) (nodesIn ws)))
+    (then-refuses _ _ (fault-refuses (λ i. Codes (record { 0 = i })) (λ i. refl) (lowest (badStyle ws xs) (nodesIn ws)))
     (then-refuses _ _ (fault-refuses Numbers (λ i. refl) (lowest (badNumbers ws xs) (nodesIn ws))) (if-refuses (badQuestion q) (Numbers (nodesIn ws)) refl)))
 
 pub room-refuses : (ws : List ℕ) (xs : List Float) (cw : List ℕ) (cx : List Float) → Refuses (no5 ws xs cw cx)

@@ -48,10 +48,10 @@ pub fn clear_marks(marks: &mut [u32])
 }
 
 // The bits of a laid row: the old probe bits stay.
-fn head_bits(old: u32, through: bool, given: bool) -> u32
-    ensures { λ r. ⌜ r ≡ headBits old through given ⌝ }
+fn head_bits(old: u32, through: bool, given: bool, based: bool) -> u32
+    ensures { λ r. ⌜ r ≡ headBits old through given based ⌝ }
 {
-    1 + 2 * one(through) + 8 * one(given) + 16 * (old / 16 % 16)
+    1 + 2 * one(through) + 8 * one(given) + 16 * (old / 16 % 16) + 256 * one(based)
 }
 
 // A node's own row: the answer, the question as asked; the probe words stay.
@@ -63,6 +63,7 @@ pub fn put_head(rows: &mut [f32], marks: &mut [u32], q: LayoutInput, o: LayoutOu
     let kw = known.width;
     let kh = known.height;
     let parent = q.parent;
+    let basis = q.basis;
     let size = o.size;
     let top = o.top;
     let bottom = o.bottom;
@@ -77,10 +78,10 @@ pub fn put_head(rows: &mut [f32], marks: &mut [u32], q: LayoutInput, o: LayoutOu
     rows[8] = kw.or_zero();
     rows[9] = kh.or_zero();
     rows[10] = parent.or_zero();
-    rows[14] = 0.0;
+    rows[14] = basis.or_zero();
     rows[15] = 0.0;
     marks[0] = 0;
-    marks[1] = head_bits(marks[1], o.through, kh.is_some());
+    marks[1] = head_bits(marks[1], o.through, kh.is_some(), basis.is_some());
 }
 
 pub fn put_place(rows: &mut [f32], marks: &mut [u32], p: Point, order: Order)
@@ -243,6 +244,17 @@ fn all_five(a: bool, b: bool, c: bool, d: bool, e: bool) -> bool
     false
 }
 
+fn all_three(a: bool, b: bool, c: bool) -> bool
+    ensures { λ r. ⌜ r ≡ (a && (b && c)) ⌝ }
+{
+    if a {
+        if b {
+            return c;
+        }
+    }
+    false
+}
+
 // A final question stands answered in a row.
 pub fn final_stands(rows: &[f32], marks: &[u32], q: LayoutInput) -> bool
     requires { ⌜ OneRow (now rows) (now marks) ⌝ }
@@ -252,13 +264,18 @@ pub fn final_stands(rows: &[f32], marks: &[u32], q: LayoutInput) -> bool
     let kw = known.width;
     let kh = known.height;
     let parent = q.parent;
+    let basis = q.basis;
     let bits = marks[1];
     all_five(
         style::flag(bits, 0),
         limits::same_bits(rows[8], kw.or_zero()),
         limits::same_bits(rows[9], kh.or_zero()),
         same_flag(style::flag(bits, 3), kh.is_some()),
-        limits::same_bits(rows[10], parent.or_zero()),
+        all_three(
+            limits::same_bits(rows[10], parent.or_zero()),
+            limits::same_bits(rows[14], basis.or_zero()),
+            same_flag(style::flag(bits, 8), basis.is_some()),
+        ),
     )
 }
 

@@ -21,6 +21,7 @@ fn known(width: f32) -> Question {
     Question {
         known,
         parent: width,
+        definiteHeight: false,
         available: AvailableSpace::Definite(width),
         collapseStart: false,
         collapseEnd: false,
@@ -36,6 +37,7 @@ fn unknown(available: AvailableSpace) -> Question {
     Question {
         known,
         parent: 320.0,
+        definiteHeight: false,
         available,
         collapseStart: false,
         collapseEnd: false,
@@ -286,6 +288,25 @@ fn change_not_named() {
     one_edit(&words, &numbers, &mut rows, &mut marks, 5, q);
 }
 
+// Heights that are parts of their container's: it alone is named when it grows, and the boxes in it follow.
+fn half_heights() {
+    let mut words = [0u32; 52];
+    let mut numbers = [0.0f32; 351];
+    let mut rows = [0.0f32; 208];
+    let mut marks = [0u32; 26];
+    let q = known(320.0);
+    start(&mut words, &mut numbers, &mut rows, &mut marks, q);
+    page::halves(&mut words, &mut numbers, 80.0);
+    show::text(
+        b"\n7a. The export row is 80 pixels high, its label and value half each. Edits: 8, 9, 10.\n",
+    );
+    let edits = [8u32, 9, 10];
+    beside(&words, &numbers, &mut rows, &mut marks, &edits, q);
+    put(&mut numbers, page::EXPORT, page::BOX_HEIGHT, 120.0);
+    show::text(b"\n7b. Then the row grows to 120 pixels. Edit: 8.\n");
+    one_edit(&words, &numbers, &mut rows, &mut marks, 8, q);
+}
+
 fn legend() {
     show::text(
         b"0 page: 1 heading, 2 notice, 3 import row (4 label, 5 value), 6 tariff row, hidden at first\n",
@@ -305,4 +326,5 @@ fn main() {
     width_from_content();
     width_available();
     change_not_named();
+    half_heights();
 }

@@ -44,6 +44,8 @@ pub const OUT: u32 = 32;
 // Fields of a node's numbers.
 pub const WIDTH: usize = 0;
 
+pub const BOX_HEIGHT: usize = 1;
+
 pub const MARGIN_TOP: usize = 6;
 
 pub const MARGIN_RIGHT: usize = 7;
@@ -160,6 +162,16 @@ fn fill_export_row(words: &mut [u32], numbers: &mut [f32]) {
     leaf(words, numbers, EXPORT_VALUE, 50.0, 120.0, 30.0);
     leaf(words, numbers, BADGE, 16.0, 16.0, 16.0);
     style(words, BADGE, LEAF | OUT);
+}
+
+// The export row that high, padding and all, its label and its value half of what is left.
+pub fn halves(words: &mut [u32], numbers: &mut [f32], height: f32) {
+    put_word(words, EXPORT, 2, 0x0551_5005);
+    put(numbers, EXPORT, BOX_HEIGHT, height);
+    put_word(words, EXPORT_LABEL, 2, 0x0555_5008);
+    put(numbers, EXPORT_LABEL, BOX_HEIGHT, 0.5);
+    put_word(words, EXPORT_VALUE, 2, 0x0555_5008);
+    put(numbers, EXPORT_VALUE, BOX_HEIGHT, 0.5);
 }
 
 // The foot: half as wide as the page, a tenth as high as wide, moved 4 pixels to the left.

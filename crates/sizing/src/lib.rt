@@ -1,6 +1,6 @@
 // Steps A to E of one box: its sizes and insets (the crate's compute_block_layout and the start of compute_inner).
 ghost use mathlib.Core.Path.{_≡_};
-ghost use Rattle.steps.specs.Sizing.{boxSize, stepA, decided, knownAxis, stepB, filled, stepD, knownOf, barOf, gutter, insets, contentBasis};
+ghost use Rattle.steps.specs.Sizing.{boxSize, sizingOf, stepA, decided, knownAxis, stepB, filled, stepD, knownOf, barOf, gutter, insets, contentBasis};
 use geometry::Rect;
 use length::LengthSize;
 use steps::Sizing;
@@ -9,11 +9,11 @@ use style::Style;
 use util::OptionF32;
 use util::OptionSize;
 
-fn box_size(s: Style, l: LengthSize, basis: OptionF32, both: Rect) -> OptionSize
-    ensures { λ r. ⌜ r ≡ boxSize s l basis both ⌝ }
+fn box_size(s: Style, l: LengthSize, basis: OptionF32, height: OptionF32, both: Rect) -> OptionSize
+    ensures { λ r. ⌜ r ≡ boxSize s l basis height both ⌝ }
 {
     let ratio = s.ratio;
-    let plain = l.resolve_axes(basis, OptionF32::None)
+    let plain = l.resolve_axes(basis, height)
         .maybe_apply_aspect_ratio(ratio);
     if s.content {
         plain.maybe_add(both.sum_axes())
@@ -22,7 +22,7 @@ fn box_size(s: Style, l: LengthSize, basis: OptionF32, both: Rect) -> OptionSize
     }
 }
 
-// Step A.
+// Step A where no height has a basis. Written out: through sizing_in the style would be copied once more.
 pub fn sizing_of(s: Style, basis: OptionF32) -> Sizing
     ensures { λ r. ⌜ r ≡ stepA s basis ⌝ }
 {
@@ -38,9 +38,31 @@ pub fn sizing_of(s: Style, basis: OptionF32) -> Sizing
         padding,
         border,
         both,
-        size: box_size(s, size, basis, both),
-        min: box_size(s, min, basis, both),
-        max: box_size(s, max, basis, both),
+        size: box_size(s, size, basis, OptionF32::None, both),
+        min: box_size(s, min, basis, OptionF32::None, both),
+        max: box_size(s, max, basis, OptionF32::None, both),
+    }
+}
+
+// Step A.
+pub fn sizing_in(s: Style, basis: OptionF32, height: OptionF32) -> Sizing
+    ensures { λ r. ⌜ r ≡ sizingOf s basis height ⌝ }
+{
+    let sp = s.padding;
+    let sb = s.border;
+    let padding = sp.resolve_sides(basis);
+    let border = sb.resolve_sides(basis);
+    let both = padding.add(border);
+    let size = s.size;
+    let min = s.min;
+    let max = s.max;
+    Sizing {
+        padding,
+        border,
+        both,
+        size: box_size(s, size, basis, height, both),
+        min: box_size(s, min, basis, height, both),
+        max: box_size(s, max, basis, height, both),
     }
 }
 

@@ -60,8 +60,8 @@ fn offset_x(left: OptionF32, right: OptionF32, rtl: bool) -> f32
     }
 }
 
-fn resolve_relative_offset(i: LengthRect, rtl: bool, basis: OptionF32) -> Point
-    ensures { λ r. ⌜ r ≡ relativeOffset i rtl basis ⌝ }
+fn resolve_relative_offset(i: LengthRect, rtl: bool, basis: OptionF32, height: OptionF32) -> Point
+    ensures { λ r. ⌜ r ≡ relativeOffset i rtl basis height ⌝ }
 {
     let top = i.top;
     let right = i.right;
@@ -73,18 +73,18 @@ fn resolve_relative_offset(i: LengthRect, rtl: bool, basis: OptionF32) -> Point
             length::maybe_resolve(right, basis),
             rtl,
         ),
-        y: length::maybe_resolve(top, OptionF32::None)
-            .or(negated(length::maybe_resolve(bottom, OptionF32::None)))
+        y: length::maybe_resolve(top, height)
+            .or(negated(length::maybe_resolve(bottom, height)))
             .or_zero(),
     }
 }
 
-fn offset_by(p: Position, i: LengthRect, rtl: bool, basis: OptionF32) -> Point
-    ensures { λ r. ⌜ r ≡ offsetBy p i rtl basis ⌝ }
+fn offset_by(p: Position, i: LengthRect, rtl: bool, basis: OptionF32, height: OptionF32) -> Point
+    ensures { λ r. ⌜ r ≡ offsetBy p i rtl basis height ⌝ }
 {
     match p {
         Position::Static => Point { x: 0.0, y: 0.0 },
-        Position::Relative => resolve_relative_offset(i, rtl, basis),
+        Position::Relative => resolve_relative_offset(i, rtl, basis, height),
         Position::Absolute => Point { x: 0.0, y: 0.0 },
     }
 }
@@ -94,6 +94,7 @@ pub fn item_of(f: Frame, s: Style) -> BlockItem
     ensures { λ r. ⌜ r ≡ itemOf f s ⌝ }
 {
     let basis = f.basis;
+    let height = f.heightBasis;
     let margin = s.margin;
     let left = margin.left;
     let right = margin.right;
@@ -101,11 +102,11 @@ pub fn item_of(f: Frame, s: Style) -> BlockItem
     let inset = s.inset;
     let inner = inner_width(f);
     BlockItem {
-        sizing: sizing::sizing_of(s, basis),
+        sizing: sizing::sizing_in(s, basis, height),
         margin: margin.resolve_sides(OptionF32::Some(inner)),
         left: length::is_auto(left),
         right: length::is_auto(right),
-        offset: offset_by(position, inset, f.rtl, OptionF32::Some(inner)),
+        offset: offset_by(position, inset, f.rtl, OptionF32::Some(inner), height),
     }
 }
 
@@ -146,6 +147,7 @@ fn child_input(f: Frame, s: Style, i: BlockItem) -> LayoutInput
     ensures { λ r. ⌜ r ≡ childInput f s i ⌝ }
 {
     let plain = frames::is_plain_block(s);
+    let basis = f.heightBasis;
     let width = asked_width(f, i);
     let known = OptionSize {
         width: OptionF32::Some(width),
@@ -154,6 +156,8 @@ fn child_input(f: Frame, s: Style, i: BlockItem) -> LayoutInput
     LayoutInput {
         known,
         parent: OptionF32::Some(inner_width(f)),
+        basis,
+        definiteHeight: true,
         available: AvailableSpace::MaxContent,
         collapseStart: plain,
         collapseEnd: plain,

@@ -1,8 +1,10 @@
 pub mod Answers
 pub mod Computed
+pub mod Heights
 pub mod Clauses
 pub mod Shape
 pub mod Codes
 pub mod Zeros
 pub mod Cells
 pub mod Listed
+pub mod Refused

@@ -14,7 +14,8 @@ use Rattle.util.specs.declared.OptionF32.the-variants.{Some}
 use Rattle.util.specs.declared.OptionSize.{OptionSize}
 use Rattle.length.specs.Length.{resolvedRect}
 use Rattle.style.specs.declared.Style.{Style}
-use Rattle.steps.specs.Sizing.{stepA, knownOf, insets, contentBasis}
+use Rattle.steps.specs.Sizing.{sizingOf, knownOf, insets, contentBasis}
+use Rattle.steps.specs.HeightBasis.{basisBelow}
 use Rattle.steps.specs.Context.{plainBlock}
 use Rattle.steps.specs.Through.{hollowBox}
 use Rattle.steps.specs.declared.LayoutInput.{LayoutInput}
@@ -44,6 +45,7 @@ stepI s q z known width padding border =
       minHeight = z .min .height;
       maxHeight = z .max .height;
       basis = contentBasis known (insets s (z .both));
+      heightBasis = basisBelow q known (insets s (z .both));
       ownStart = adjoins s (q .collapseStart) (padding .top) (border .top);
       ownEnd = ownEndOf s (q .collapseEnd) (padding .bottom) (border .bottom) (z .size .height);
       hollow = hollowBox s (q .nested) padding border;
@@ -59,6 +61,6 @@ frameBy s q z known width =
 -- A, B, D, E, H and I. `found` is what step F found: only a page's root can lack a width here.
 unfoldable pub frameOf : Style → LayoutInput → Float → Frame
 frameOf s q found =
-    let z = stepA s (q .parent) in
+    let z = sizingOf s (q .parent) (q .basis) in
     let known = knownOf s z (q .known) in
     frameBy s q z known (unwrapOr (known .width) found)

@@ -14,13 +14,15 @@ use Rattle.style.specs.declared.Flow.the-variants.{Gone, Out, In}
 use Rattle.steps.specs.declared.LayoutInput.{LayoutInput}
 use Rattle.steps.specs.declared.LayoutOutput.{LayoutOutput}
 
--- a final question stands answered in a row: numbers 8-10 and bit 3 with the same bits, bit 0 set
+-- a final question stands answered in a row: numbers 8-10, 14 and bits 3, 8 with the same bits, bit 0 set
 unfoldable pub finalStands : LayoutInput → Row → Bool
 finalStands q r =
     isLaid r
     && (sameF (r .asked .width) (orZero (q .known .width))
     && (sameF (r .asked .height) (orZero (q .known .height))
-    && (Bool·beq (flagAt (r .bits) 3) (isSome (q .known .height)) && sameF (r .asked .parent) (orZero (q .parent)))))
+    && (Bool·beq (flagAt (r .bits) 3) (isSome (q .known .height))
+    && (sameF (r .asked .parent) (orZero (q .parent))
+    && (sameF (r .asked .basis) (orZero (q .basis)) && Bool·beq (flagAt (r .bits) 8) (isSome (q .basis)))))))
 
 unfoldable pub editedNode : Node → Bool
 editedNode l = l .site .edit

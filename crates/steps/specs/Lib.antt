@@ -8,6 +8,7 @@ pub mod Sizing
 pub mod Width
 pub mod Probe
 pub mod Context
+pub mod HeightBasis
 pub mod Edges
 pub mod Stack
 pub mod Height

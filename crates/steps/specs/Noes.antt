@@ -69,15 +69,12 @@ badTree ws i =
     || (some (λ j. holds ws i j && ltb (endAt ws j) (endAt ws i)) i
     || ((eqb (codeAt (wordAt ws i 1) 0) 1 && ltb 1 (wordAt ws i 0)) || leb 32 (howMany (holds ws i) i))))
 
--- 3: auto is forbidden in 10-17, fractions in 1, 3, 5, 18, 20; there is no unit 3
+-- 3: auto is forbidden in 10-17; there is no unit 3
 unfoldable pub noAuto : ℕ → Bool
 noAuto f = leb 10 f && ltb f 18
 
-unfoldable pub noFraction : ℕ → Bool
-noFraction f = eqb f 1 || (eqb f 3 || (eqb f 5 || (eqb f 18 || eqb f 20)))
-
 unfoldable pub badUnit : ℕ → ℕ → Bool
-badUnit f unit = eqb unit 3 || ((eqb unit 0 && noAuto f) || (eqb unit 2 && noFraction f))
+badUnit f unit = eqb unit 3 || (eqb unit 0 && noAuto f)
 
 -- 3: unknown code, unused bit set, forbidden unit, root not a block
 unfoldable pub badCodes : List ℕ → ℕ → Bool
@@ -88,6 +85,18 @@ badCodes ws i =
     || (not (clearFrom (wordAt ws i 2) 28)
     || (not (clearFrom (wordAt ws i 3) 16)
     || (some (λ f. badUnit f (unitOf (wordAt ws i 2) (wordAt ws i 3) f)) 22 || (eqb i 0 && not (eqb (codeAt (wordAt ws i 1) 0) 0)))))))
+
+-- 3: field f of node i is a fraction
+abbrev pub fractionAt : List ℕ → ℕ → ℕ → Bool
+fractionAt ws i f = eqb (unitOf (wordAt ws i 2) (wordAt ws i 3) f) 2
+
+-- 3: a ratio other than 0 (NaN too) beside a fraction in 1, 3 or 5
+unfoldable pub ratioBesideFraction : List ℕ → List Float → ℕ → Bool
+ratioBesideFraction ws xs i = not (eq (numberAt xs i 22) zeroF) && (fractionAt ws i 1 || (fractionAt ws i 3 || fractionAt ws i 5))
+
+-- 3 of node i: its ratio, or its codes
+unfoldable pub badStyle : List ℕ → List Float → ℕ → Bool
+badStyle ws xs i = ratioBesideFraction ws xs i || badCodes ws i
 
 -- the literals 65536.0, 1.0, 1/64 and 64.0
 abbrev pub mostPixels : Float
@@ -146,9 +155,9 @@ recordsIn cw cx = min (length cw / 2) (length cx / 3)
 unfoldable pub badEdit : List ℕ → ℕ → ℕ → Bool
 badEdit es n k = not (ltb (getD es k 0) n)
 
--- 8: a row number 0-13 of magnitude 16,777,216 or more, or NaN
+-- 8: a row number 0-14 of magnitude 16,777,216 or more, or NaN
 unfoldable pub badRow : List Float → ℕ → Bool
-badRow rs i = some (λ k. tooLarge (getD rs (16 * i + k) zeroF)) 14
+badRow rs i = some (λ k. tooLarge (getD rs (16 * i + k) zeroF)) 15
 
 -- a node at fault refuses
 unfoldable pub atFault : (ℕ → Answer) → Found → Tested
@@ -164,8 +173,12 @@ atSpot (spot.At k) = Refuse (Edits k)
 unfoldable pub no2 : List ℕ → Tested
 no2 ws = atFault (λ i. Tree (record { 0 = i })) (lowest (badTree ws) (nodesIn ws))
 
-unfoldable pub no3 : List ℕ → Tested
-no3 ws = atFault (λ i. Codes (record { 0 = i })) (lowest (badCodes ws) (nodesIn ws))
+-- 3 by a test of one node: the words alone, or the numbers too
+abbrev pub no3By : (ℕ → Bool) → List ℕ → Tested
+no3By bad ws = atFault (λ i. Codes (record { 0 = i })) (lowest bad (nodesIn ws))
+
+unfoldable pub no3 : List ℕ → List Float → Tested
+no3 ws xs = no3By (badStyle ws xs) ws
 
 unfoldable pub no4 : List ℕ → List Float → LayoutInput → Tested
 no4 ws xs q = andThen (atFault Numbers (lowest (badNumbers ws xs) (nodesIn ws))) (refuseIf (badQuestion q) (Numbers (nodesIn ws)))
@@ -181,7 +194,7 @@ no7 ms = refuseIf (not (flagAt (getD ms 1 0) 0)) NotLaid
 
 -- 2 to 4, which every call tests
 unfoldable pub pageTested : List ℕ → List Float → LayoutInput → Tested
-pageTested ws xs q = andThen (no2 ws) (andThen (no3 ws) (no4 ws xs q))
+pageTested ws xs q = andThen (no2 ws) (andThen (no3 ws xs) (no4 ws xs q))
 
 unfoldable pub layoutTested : List ℕ → List Float → List Float → List ℕ → List ℕ → List Float → LayoutInput → Tested
 layoutTested ws xs rs ms cw cx q =

@@ -25,11 +25,12 @@ pub record RowAnswer : Type 0 where
   pub top : CollapsibleMarginSet
   pub bottom : CollapsibleMarginSet
 
--- numbers 8-10: known width, known height, parent width as asked
+-- numbers 8-10 and 14: known width, known height, parent width and height basis as asked
 pub record RowAsked : Type 0 where
   pub width : Float
   pub height : Float
   pub parent : Float
+  pub basis : Float
 
 -- numbers 11-13: the probe's definite available width, its known height, its answer
 pub record RowProbe : Type 0 where
@@ -37,18 +38,13 @@ pub record RowProbe : Type 0 where
   pub height : Float
   pub answer : Float
 
--- numbers 14-15
-pub record RowSpare : Type 0 where
-  pub first : Float
-  pub second : Float
-
--- numbers 0-1 are the place
+-- numbers 0-1 are the place, number 15 is spare
 pub record Row : Type 0 where
   pub place : Point
   pub answer : RowAnswer
   pub asked : RowAsked
   pub probe : RowProbe
-  pub spare : RowSpare
+  pub spare : Float
   pub order : ℕ
   pub bits : ℕ
 
@@ -69,8 +65,8 @@ rowNumbers r =
     ∷ r .probe .width
     ∷ r .probe .height
     ∷ r .probe .answer
-    ∷ r .spare .first
-    ∷ r .spare .second
+    ∷ r .asked .basis
+    ∷ r .spare
     ∷ []
 
 abbrev pub rowWords : Row → List ℕ
@@ -87,14 +83,20 @@ rowAt rs ms i =
             top = record { positive = getD rs (16 * i + 4) zeroF; negative = getD rs (16 * i + 5) zeroF };
             bottom = record { positive = getD rs (16 * i + 6) zeroF; negative = getD rs (16 * i + 7) zeroF };
           };
-      asked = record { width = getD rs (16 * i + 8) zeroF; height = getD rs (16 * i + 9) zeroF; parent = getD rs (16 * i + 10) zeroF };
+      asked =
+          record {
+            width = getD rs (16 * i + 8) zeroF;
+            height = getD rs (16 * i + 9) zeroF;
+            parent = getD rs (16 * i + 10) zeroF;
+            basis = getD rs (16 * i + 14) zeroF;
+          };
       probe = record { width = getD rs (16 * i + 11) zeroF; height = getD rs (16 * i + 12) zeroF; answer = getD rs (16 * i + 13) zeroF };
-      spare = record { first = getD rs (16 * i + 14) zeroF; second = getD rs (16 * i + 15) zeroF };
+      spare = getD rs (16 * i + 15) zeroF;
       order = getD ms (2 * i) 0;
       bits = getD ms (2 * i + 1) 0;
     }
 
--- bits: 0 laid, 1 through, 2 out of flow, 3 known height given, 4 probed, 5-6 available kind, 7 probe height given
+-- bits: 0 laid, 1 through, 2 out of flow, 3 known height given, 4 probed, 5-6 available kind, 7 probe height given, 8 height basis given
 unfoldable pub isLaid : Row → Bool
 isLaid r = flagAt (r .bits) 0
 
@@ -139,18 +141,15 @@ withCode b code = b % 16 + 16 * code + 256 * (b / 256)
 unfoldable pub noted : Row → ProbeWords → ℕ → Row
 noted r p bits = record { place = r .place; answer = r .answer; asked = r .asked; probe = p .numbers; spare = r .spare; order = r .order; bits = bits }
 
-abbrev pub noSpare : RowSpare
-noSpare = record { first = zeroF; second = zeroF }
-
 -- a row that is zero but for place, width, order and bits
 unfoldable pub bare : Point → Float → ℕ → ℕ → Row
 bare place width order bits =
     record {
       place = place;
       answer = record { size = record { width = width; height = zeroF }; top = noMargins; bottom = noMargins };
-      asked = record { width = zeroF; height = zeroF; parent = zeroF };
+      asked = record { width = zeroF; height = zeroF; parent = zeroF; basis = zeroF };
       probe = record { width = zeroF; height = zeroF; answer = zeroF };
-      spare = noSpare;
+      spare = zeroF;
       order = order;
       bits = bits;
     }
@@ -176,11 +175,17 @@ laidRow q o p =
     record {
       place = origin;
       answer = record { size = o .size; top = o .top; bottom = o .bottom };
-      asked = record { width = orZero (q .known .width); height = orZero (q .known .height); parent = orZero (q .parent) };
+      asked =
+          record {
+            width = orZero (q .known .width);
+            height = orZero (q .known .height);
+            parent = orZero (q .parent);
+            basis = orZero (q .basis);
+          };
       probe = p .numbers;
-      spare = noSpare;
+      spare = zeroF;
       order = 0;
-      bits = 1 + 2 * bit (o .through) + 8 * bit (isSome (q .known .height)) + 16 * p .code;
+      bits = 1 + 2 * bit (o .through) + 8 * bit (isSome (q .known .height)) + 16 * p .code + 256 * bit (isSome (q .basis));
     }
 
 -- the answer that a laid row holds

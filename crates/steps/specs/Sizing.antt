@@ -1,5 +1,5 @@
 -- Steps A, B, D and E: a box's own numbers.
---   A  padding, border and sizes resolved; ratio; content-box      boxSize, sizedBy; whole: stepA
+--   A  padding, border and sizes resolved; ratio; content-box      boxSize, sizedBy; whole: sizingOf; without height basis: stepA
 --   B  asked, else min where max <= min, else clamped; floored     decided, knownAxis; whole: stepB
 --   D  ratio fills a missing axis, clamped                         filled; whole: stepD
 --   A, B and D of the known sizes                                  knownOf
@@ -20,34 +20,34 @@ use Rattle.style.specs.declared.Overflow.the-variants.{Visible, Clip, Hidden, S
 use Rattle.style.specs.declared.Style.{Style}
 use Rattle.steps.specs.declared.Sizing.{Sizing}
 
--- no height has a basis
-unfoldable pub heightBasis : OptionF32
-heightBasis = None
-
--- A: a size against the parent width; ratio, then add padding+border if content-box
-unfoldable pub boxSize : Style → LengthSize → OptionF32 → Rect → OptionSize
-boxSize s l basis both =
-    let size = ratioFills (resolvedSize l basis heightBasis) (s .ratio) in
+-- A: a size against the parent width and the height basis; ratio, then add padding+border if content-box
+unfoldable pub boxSize : Style → LengthSize → OptionF32 → OptionF32 → Rect → OptionSize
+boxSize s l basis height both =
+    let size = ratioFills (resolvedSize l basis height) (s .ratio) in
     cond (s .content) (addSize size (sumAxes both)) size
 
 -- A with padding and border at hand
-unfoldable pub sizedBy : Style → OptionF32 → Rect → Rect → Rect → Sizing
-sizedBy s basis padding border both =
+unfoldable pub sizedBy : Style → OptionF32 → OptionF32 → Rect → Rect → Rect → Sizing
+sizedBy s basis height padding border both =
     record {
       padding = padding;
       border = border;
       both = both;
-      size = boxSize s (s .size) basis both;
-      min = boxSize s (s .min) basis both;
-      max = boxSize s (s .max) basis both;
+      size = boxSize s (s .size) basis height both;
+      min = boxSize s (s .min) basis height both;
+      max = boxSize s (s .max) basis height both;
     }
 
 -- A: resolve padding, border, sizes
-unfoldable pub stepA : Style → OptionF32 → Sizing
-stepA s basis =
+unfoldable pub sizingOf : Style → OptionF32 → OptionF32 → Sizing
+sizingOf s basis height =
     let padding = resolvedRect (s .padding) basis in
     let border = resolvedRect (s .border) basis in
-    sizedBy s basis padding border (plus padding border)
+    sizedBy s basis height padding border (plus padding border)
+
+-- A of the root and of a probed box: no height has a basis
+unfoldable pub stepA : Style → OptionF32 → Sizing
+stepA s basis = sizingOf s basis None
 
 -- B: min where max <= min
 unfoldable pub decided : OptionF32 → OptionF32 → OptionF32

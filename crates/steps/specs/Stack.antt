@@ -1,5 +1,5 @@
 -- Step J, child by child: what is asked of it, where it stands, and how the stack goes on.
---   margins and side offsets against inner width                   innerWidth, itemOf, relativeOffset
+--   margins and side offsets against inner width, heights' numbers against the frame's basis    innerWidth, itemOf, relativeOffset
 --   known sizes clamped, larger with padding+border; parent inner  askedWidth, askedHeight, childInput; the question: questionTo
 --   T and B; gap; free; place x and y                              topMargins, bottomMargins, gapOf, freeOf, shareOf; placeOf
 --   through, or else: strut, top set, y                            pastThrough, pastBox; the next cursor: stepped
@@ -26,7 +26,7 @@ use Rattle.style.specs.declared.Style.{Style}
 use Rattle.margin.specs.Margin.{noMargins, joined, joinedWith, sumOf}
 use Rattle.margin.specs.declared.CollapsibleMarginSet.{CollapsibleMarginSet}
 use Rattle.alignment.specs.Align.{twoF}
-use Rattle.steps.specs.Sizing.{heightBasis, stepA}
+use Rattle.steps.specs.Sizing.{sizingOf}
 use Rattle.steps.specs.Context.{plainBlock}
 use Rattle.steps.specs.declared.LayoutInput.{LayoutInput}
 use Rattle.steps.specs.declared.LayoutOutput.{LayoutOutput}
@@ -50,28 +50,28 @@ negOpt (Some x) = Some (neg x)
 unfoldable pub offsetX : OptionF32 → OptionF32 → Bool → Float
 offsetX left right rtl = cond rtl (orZero (orElse (negOpt right) left)) (orZero (orElse left (negOpt right)))
 
--- the offset of a relative box; y is top else -bottom
-unfoldable pub relativeOffset : LengthRect → Bool → OptionF32 → Point
-relativeOffset i rtl basis =
+-- the offset of a relative box; y is top else -bottom, against the height basis
+unfoldable pub relativeOffset : LengthRect → Bool → OptionF32 → OptionF32 → Point
+relativeOffset i rtl basis height =
     record {
       x = offsetX (resolved (i .left) basis) (resolved (i .right) basis) rtl;
-      y = orZero (orElse (resolved (i .top) heightBasis) (negOpt (resolved (i .bottom) heightBasis)));
+      y = orZero (orElse (resolved (i .top) height) (negOpt (resolved (i .bottom) height)));
     }
 
-unfoldable pub offsetBy : Position → LengthRect → Bool → OptionF32 → Point
-offsetBy Static i rtl basis = record { x = zeroF; y = zeroF }
-offsetBy Relative i rtl basis = relativeOffset i rtl basis
-offsetBy Absolute i rtl basis = record { x = zeroF; y = zeroF }
+unfoldable pub offsetBy : Position → LengthRect → Bool → OptionF32 → OptionF32 → Point
+offsetBy Static i rtl basis height = record { x = zeroF; y = zeroF }
+offsetBy Relative i rtl basis height = relativeOffset i rtl basis height
+offsetBy Absolute i rtl basis height = record { x = zeroF; y = zeroF }
 
 -- E's numbers; margins and side offsets against inner width, an auto margin counts 0 at first
 unfoldable pub itemOf : Frame → Style → BlockItem
 itemOf f s =
     record {
-      sizing = stepA s (f .basis);
+      sizing = sizingOf s (f .basis) (f .heightBasis);
       margin = resolvedRect (s .margin) (Some (innerWidth f));
       left = isAuto (s .margin .left);
       right = isAuto (s .margin .right);
-      offset = offsetBy (s .position) (s .inset) (f .rtl) (Some (innerWidth f));
+      offset = offsetBy (s .position) (s .inset) (f .rtl) (Some (innerWidth f)) (f .heightBasis);
     }
 
 -- width = size or inner - margins, clamped, larger with padding+border
@@ -90,6 +90,8 @@ childInput f s i =
     record {
       known = record { width = Some (askedWidth f i); height = askedHeight i };
       parent = Some (innerWidth f);
+      basis = f .heightBasis;
+      definiteHeight = true;
       available = MaxContent;
       collapseStart = plainBlock s;
       collapseEnd = plainBlock s;

@@ -12,19 +12,22 @@ use tree::Order;
 use util::OptionF32;
 use util::OptionSize;
 
-// What a caller asks of a page. The parent width is always a number.
+// What a caller asks of a page. The parent width is always a number. A known height is definite only where the caller says so.
 pub struct Question {
     pub known: OptionSize,
     pub parent: f32,
+    pub definiteHeight: bool,
     pub available: AvailableSpace,
     pub collapseStart: bool,
     pub collapseEnd: bool,
 }
 
-// A final question. Two flags say which margins may collapse; `nested` is false at the root alone.
+// A final question. `basis` is what a fraction of a height is a part of. Two flags say which margins may collapse; `nested` is false at the root alone.
 pub struct LayoutInput {
     pub known: OptionSize,
     pub parent: OptionF32,
+    pub basis: OptionF32,
+    pub definiteHeight: bool,
     pub available: AvailableSpace,
     pub collapseStart: bool,
     pub collapseEnd: bool,
@@ -71,6 +74,7 @@ pub struct Frame {
     pub minHeight: OptionF32,
     pub maxHeight: OptionF32,
     pub basis: OptionF32,
+    pub heightBasis: OptionF32,
     pub ownStart: bool,
     pub ownEnd: bool,
     pub hollow: bool,
@@ -155,6 +159,8 @@ pub fn root_input(q: Question) -> LayoutInput
     LayoutInput {
         known,
         parent: OptionF32::Some(q.parent),
+        basis: OptionF32::None,
+        definiteHeight: q.definiteHeight,
         available,
         collapseStart: q.collapseStart,
         collapseEnd: q.collapseEnd,

@@ -13,7 +13,7 @@ use Rattle.tree.specs.declared.NodeId.{NodeId}
 use Rattle.steps.specs.Scan.{lowest, firstOf}
 use Rattle.steps.specs.Page.{nodesIn, pageOf}
 use Rattle.steps.specs.Candidates.{needed}
-use Rattle.steps.specs.Noes.{badTables, badTree, badCodes, badNumbers, badQuestion, badEdit, recordsIn, refuseIf, andThen, atFault, atSpot, no2, no3, no4, no5, no6, no7, pageTested, layoutTested, relayoutTested, sizeTested}
+use Rattle.steps.specs.Noes.{badTables, badTree, badStyle, badNumbers, badQuestion, badEdit, recordsIn, refuseIf, andThen, atFault, atSpot, no2, no3By, no3, no4, no5, no6, no7, pageTested, layoutTested, relayoutTested, sizeTested}
 use Rattle.steps.specs.declared.LayoutInput.{LayoutInput}
 use Rattle.steps.specs.declared.Answer.{Answer}
 use Rattle.steps.specs.declared.Answer.the-variants.{Done, Lengths, Tree, Codes, Numbers, Room, Edits, NotLaid, TooLarge}
@@ -45,13 +45,13 @@ module _ (ws : List ℕ) where
   unfolding no2 atFault
   tree-pass h = rw (nowhere-lowest (badTree ws) (nodesIn ws) h)
 
-  pub codes-fault : (i : NodeId) → Lowest (badCodes ws) (nodesIn ws) (i .0) → no3 ws ≡ Refuse (Codes i)
-  unfolding no3 atFault
-  codes-fault i h = rw (at-lowest (badCodes ws) (nodesIn ws) (i .0) h)
+  pub codes-fault : (p : ℕ → Bool) (i : NodeId) → Lowest p (nodesIn ws) (i .0) → no3By p ws ≡ Refuse (Codes i)
+  unfolding atFault
+  codes-fault p i h = rw (at-lowest p (nodesIn ws) (i .0) h)
 
-  pub codes-pass : Sound (badCodes ws) (nodesIn ws) → no3 ws ≡ Pass
-  unfolding no3 atFault
-  codes-pass h = rw (nowhere-lowest (badCodes ws) (nodesIn ws) h)
+  pub codes-pass : (p : ℕ → Bool) → Sound p (nodesIn ws) → no3By p ws ≡ Pass
+  unfolding atFault
+  codes-pass p h = rw (nowhere-lowest p (nodesIn ws) h)
 
   module _ (xs : List Float) (q : LayoutInput) where
     numbers-fault : (k : ℕ) → NumbersAt ws xs q k → no4 ws xs q ≡ Refuse (Numbers k)
@@ -83,29 +83,29 @@ module _ (bad : Bool) (ws : List ℕ) (xs : List Float) (q : LayoutInput) (rest 
 
   -- whatever holds of each answer with what it is given for, and of the rest of a sound page, holds
   module _ (D : Tested → Type 0) (refused : (a : Answer) → PageDue bad ws xs q a → D (Refuse a)) (passed : bad ≡ false → PageSound ws xs q → D rest) where
-    by-question : bad ≡ false → Sound (badTree ws) (nodesIn ws) → Sound (badCodes ws) (nodesIn ws) → Sound (badNumbers ws xs) (nodesIn ws) → (b : Bool) → badQuestion q ≡ b
+    by-question : bad ≡ false → Sound (badTree ws) (nodesIn ws) → Sound (badStyle ws xs) (nodesIn ws) → Sound (badNumbers ws xs) (nodesIn ws) → (b : Bool) → badQuestion q ≡ b
         → D (andThen (refuseIf b (Numbers (nodesIn ws))) rest)
     unfolding andThen
     by-question m t c n true e = refused (Numbers (nodesIn ws)) (m, t, c, of-question n e refl)
     by-question m t c n false e = passed m (record { tree = t; codes = c; numbers = n; question = e })
 
-    by-numbers : bad ≡ false → Sound (badTree ws) (nodesIn ws) → Sound (badCodes ws) (nodesIn ws) → (f : Found) → lowest (badNumbers ws xs) (nodesIn ws) ≡ f
+    by-numbers : bad ≡ false → Sound (badTree ws) (nodesIn ws) → Sound (badStyle ws xs) (nodesIn ws) → (f : Found) → lowest (badNumbers ws xs) (nodesIn ws) ≡ f
         → D (andThen (andThen (atFault Numbers f) (refuseIf (badQuestion q) (Numbers (nodesIn ws)))) rest)
     unfolding andThen atFault
     by-numbers m t c (At i) e = refused (Numbers (i .0)) (m, t, c, of-node (lowest-at (badNumbers ws xs) (nodesIn ws) (i .0) e))
     by-numbers m t c Nowhere e = by-question m t c (lowest-nowhere (badNumbers ws xs) (nodesIn ws) e) (badQuestion q) refl
 
-    by-codes : bad ≡ false → Sound (badTree ws) (nodesIn ws) → (f : Found) → lowest (badCodes ws) (nodesIn ws) ≡ f
+    by-codes : bad ≡ false → Sound (badTree ws) (nodesIn ws) → (f : Found) → lowest (badStyle ws xs) (nodesIn ws) ≡ f
         → D (andThen (andThen (atFault (λ i. Codes (record { 0 = i })) f) (no4 ws xs q)) rest)
     unfolding andThen atFault no4
-    by-codes m t (At i) e = refused (Codes i) (m, t, lowest-at (badCodes ws) (nodesIn ws) (i .0) e)
-    by-codes m t Nowhere e = by-numbers m t (lowest-nowhere (badCodes ws) (nodesIn ws) e) (lowest (badNumbers ws xs) (nodesIn ws)) refl
+    by-codes m t (At i) e = refused (Codes i) (m, t, lowest-at (badStyle ws xs) (nodesIn ws) (i .0) e)
+    by-codes m t Nowhere e = by-numbers m t (lowest-nowhere (badStyle ws xs) (nodesIn ws) e) (lowest (badNumbers ws xs) (nodesIn ws)) refl
 
     by-tree : bad ≡ false → (f : Found) → lowest (badTree ws) (nodesIn ws) ≡ f
-        → D (andThen (andThen (atFault (λ i. Tree (record { 0 = i })) f) (andThen (no3 ws) (no4 ws xs q))) rest)
+        → D (andThen (andThen (atFault (λ i. Tree (record { 0 = i })) f) (andThen (no3 ws xs) (no4 ws xs q))) rest)
     unfolding andThen atFault no3
     by-tree m (At i) e = refused (Tree i) (m, lowest-at (badTree ws) (nodesIn ws) (i .0) e)
-    by-tree m Nowhere e = by-codes m (lowest-nowhere (badTree ws) (nodesIn ws) e) (lowest (badCodes ws) (nodesIn ws)) refl
+    by-tree m Nowhere e = by-codes m (lowest-nowhere (badTree ws) (nodesIn ws) e) (lowest (badStyle ws xs) (nodesIn ws)) refl
 
     by-lengths : (b : Bool) → bad ≡ b → D (andThen (refuseIf b Lengths) (andThen (pageTested ws xs q) rest))
     unfolding andThen pageTested no2
@@ -116,11 +116,11 @@ module _ (bad : Bool) (ws : List ℕ) (xs : List Float) (q : LayoutInput) (rest 
     page-cases = by-lengths bad refl
 
   page-refused : (a : Answer) → PageDue bad ws xs q a → tested ≡ Refuse a
-  unfolding pageTested andThen
+  unfolding pageTested no3 andThen
   page-refused Lengths e = rw e
   page-refused (Tree i) (m, h) = rw (m, tree-fault ws i h)
-  page-refused (Codes i) (m, t, h) = rw (m, tree-pass ws t, codes-fault ws i h)
-  page-refused (Numbers k) (m, t, c, h) = rw (m, tree-pass ws t, codes-pass ws c, numbers-fault ws xs q k h)
+  page-refused (Codes i) (m, t, h) = rw (m, tree-pass ws t, codes-fault ws (badStyle ws xs) i h)
+  page-refused (Numbers k) (m, t, c, h) = rw (m, tree-pass ws t, codes-pass ws (badStyle ws xs) c, numbers-fault ws xs q k h)
   page-refused Room e = absurd e
   page-refused (Edits k) e = absurd e
   page-refused NotLaid e = absurd e
@@ -128,8 +128,8 @@ module _ (bad : Bool) (ws : List ℕ) (xs : List Float) (q : LayoutInput) (rest 
   page-refused (Done k) e = absurd e
 
   page-passed : bad ≡ false → PageSound ws xs q → tested ≡ rest
-  unfolding pageTested andThen
-  page-passed m h = rw (m, tree-pass ws (h .tree), codes-pass ws (h .codes), numbers-pass ws xs q (h .numbers) (h .question))
+  unfolding pageTested no3 andThen
+  page-passed m h = rw (m, tree-pass ws (h .tree), codes-pass ws (badStyle ws xs) (h .codes), numbers-pass ws xs q (h .numbers) (h .question))
 
 -- ---- the size question
 then-pass : (t : Tested) → andThen t Pass ≡ t

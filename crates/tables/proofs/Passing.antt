@@ -11,7 +11,7 @@ use borrow.Author.Tests.{ltb-false, eqb-false, eqb-true, not-false}
 use Rattle.limits.specs.Bools.{or-left, or-right}
 use Rattle.steps.specs.Scan.{lowest}
 use Rattle.steps.specs.Page.{nodesIn}
-use Rattle.steps.specs.Noes.{badTables, badTree, badCodes, badNumbers, badQuestion, refuseIf, andThen, atFault, no2, no3, no4, pageTested}
+use Rattle.steps.specs.Noes.{badTables, badTree, badStyle, badNumbers, badQuestion, refuseIf, andThen, atFault, no2, no3, no4, pageTested}
 use Rattle.steps.specs.declared.LayoutInput.{LayoutInput}
 use Rattle.steps.specs.declared.Answer.{Answer}
 use Rattle.steps.specs.declared.Answer.the-variants.{Tree, Codes, Numbers}
@@ -68,18 +68,18 @@ sized ws xs e =
 -- 2 to 4 are not due
 pub record PagePasses (ws : List ℕ) (xs : List Float) (q : LayoutInput) : Type 0 where
   pub tree : lowest (badTree ws) (nodesIn ws) ≡ Nowhere
-  pub codes : lowest (badCodes ws) (nodesIn ws) ≡ Nowhere
+  pub codes : lowest (badStyle ws xs) (nodesIn ws) ≡ Nowhere
   pub numbers : lowest (badNumbers ws xs) (nodesIn ws) ≡ Nowhere
   pub question : badQuestion q ≡ false
 
 pub page-passes : (ws : List ℕ) (xs : List Float) (q : LayoutInput) → pageTested ws xs q ≡ Pass → PagePasses ws xs q
 unfolding pageTested no2 no3 no4
 page-passes ws xs q e =
-    let a = then-pass-2 (no2 ws) (andThen (no3 ws) (no4 ws xs q)) e in
-    let b = then-pass-2 (no3 ws) (no4 ws xs q) a in
+    let a = then-pass-2 (no2 ws) (andThen (no3 ws xs) (no4 ws xs q)) e in
+    let b = then-pass-2 (no3 ws xs) (no4 ws xs q) a in
     record {
-      tree = fault-pass (λ i. Tree (record { 0 = i })) _ (then-pass-1 (no2 ws) (andThen (no3 ws) (no4 ws xs q)) e);
-      codes = fault-pass (λ i. Codes (record { 0 = i })) _ (then-pass-1 (no3 ws) (no4 ws xs q) a);
+      tree = fault-pass (λ i. Tree (record { 0 = i })) _ (then-pass-1 (no2 ws) (andThen (no3 ws xs) (no4 ws xs q)) e);
+      codes = fault-pass (λ i. Codes (record { 0 = i })) _ (then-pass-1 (no3 ws xs) (no4 ws xs q) a);
       numbers = fault-pass Numbers _ (then-pass-1 (atFault Numbers (lowest (badNumbers ws xs) (nodesIn ws))) _ b);
       question = if-pass (badQuestion q) (Numbers (nodesIn ws)) (then-pass-2 (atFault Numbers (lowest (badNumbers ws xs) (nodesIn ws))) _ b);
     }

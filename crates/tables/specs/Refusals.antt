@@ -8,7 +8,7 @@ use lib.Ieee.{Float}
 use Rattle.style.specs.Codes.{flagAt}
 use Rattle.steps.specs.Page.{nodesIn, pageOf}
 use Rattle.steps.specs.Candidates.{needed}
-use Rattle.steps.specs.Noes.{badTables, badRows, badTree, badCodes, badNumbers, badQuestion, badEdit, recordsIn}
+use Rattle.steps.specs.Noes.{badTables, badRows, badTree, badStyle, badNumbers, badQuestion, badEdit, recordsIn}
 use Rattle.steps.specs.declared.LayoutInput.{LayoutInput}
 use Rattle.steps.specs.declared.Answer.{Answer}
 use Rattle.steps.specs.declared.Answer.the-variants.{Done, Lengths, Tree, Codes, Numbers, Room, Edits, NotLaid, TooLarge}
@@ -38,7 +38,7 @@ pub data EditsAt (es : List ℕ) (n k : ℕ) : Type 0 where
 -- none of 2 to 4 is due
 pub record PageSound (ws : List ℕ) (xs : List Float) (q : LayoutInput) : Type 0 where
   pub tree : Sound (badTree ws) (nodesIn ws)
-  pub codes : Sound (badCodes ws) (nodesIn ws)
+  pub codes : Sound (badStyle ws xs) (nodesIn ws)
   pub numbers : Sound (badNumbers ws xs) (nodesIn ws)
   pub question : badQuestion q ≡ false
 
@@ -51,8 +51,8 @@ pub record EditsSound (es : List ℕ) (n : ℕ) : Type 0 where
 abbrev pub PageDue : Bool → List ℕ → List Float → LayoutInput → Answer → Type 0
 PageDue misfit ws xs q Lengths = misfit ≡ true
 PageDue misfit ws xs q (Tree i) = (misfit ≡ false) × Lowest (badTree ws) (nodesIn ws) (i .0)
-PageDue misfit ws xs q (Codes i) = (misfit ≡ false) × Sound (badTree ws) (nodesIn ws) × Lowest (badCodes ws) (nodesIn ws) (i .0)
-PageDue misfit ws xs q (Numbers k) = (misfit ≡ false) × Sound (badTree ws) (nodesIn ws) × Sound (badCodes ws) (nodesIn ws) × NumbersAt ws xs q k
+PageDue misfit ws xs q (Codes i) = (misfit ≡ false) × Sound (badTree ws) (nodesIn ws) × Lowest (badStyle ws xs) (nodesIn ws) (i .0)
+PageDue misfit ws xs q (Numbers k) = (misfit ≡ false) × Sound (badTree ws) (nodesIn ws) × Sound (badStyle ws xs) (nodesIn ws) × NumbersAt ws xs q k
 PageDue misfit ws xs q Room = ⊥
 PageDue misfit ws xs q (Edits k) = ⊥
 PageDue misfit ws xs q NotLaid = ⊥

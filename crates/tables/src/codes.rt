@@ -6,10 +6,11 @@ ghost use lib.Dec.{leb, ltb};
 ghost use Rattle.style.specs.Codes.{unitOf};
 ghost use Rattle.steps.specs.Scan.{lowest, some};
 ghost use Rattle.steps.specs.Page.{nodesIn};
-ghost use Rattle.steps.specs.Noes.{noAuto, noFraction, badUnit, badCodes};
+ghost use Rattle.steps.specs.Noes.{noAuto, badUnit, badCodes, ratioBesideFraction, badStyle};
 use steps::Found;
 use style::clear_from;
 use style::code;
+use style::number;
 use style::unit;
 use style::word;
 use tree::NodeId;
@@ -28,25 +29,6 @@ fn no_auto(f: u32) -> bool
     spans(10, 18, f)
 }
 
-// 3: fields that take no fraction.
-fn no_fraction(f: u32) -> bool
-    ensures { λ r. ⌜ r ≡ noFraction f ⌝ }
-{
-    if f == 1 {
-        return true;
-    }
-    if f == 3 {
-        return true;
-    }
-    if f == 5 {
-        return true;
-    }
-    if f == 18 {
-        return true;
-    }
-    f == 20
-}
-
 // 3: unit 3 is unknown.
 fn bad_unit(f: u32, unit: u32) -> bool
     ensures { λ r. ⌜ r ≡ badUnit f unit ⌝ }
@@ -56,9 +38,6 @@ fn bad_unit(f: u32, unit: u32) -> bool
     }
     if unit == 0 {
         return no_auto(f);
-    }
-    if unit == 2 {
-        return no_fraction(f);
     }
     false
 }
@@ -77,7 +56,7 @@ fn some_bad_unit(u: u32, v: u32) -> bool
     false
 }
 
-// 3, of node i.
+// 3, of node i's words.
 fn bad_codes(words: &[u32], i: usize) -> bool
     ensures { λ r. ⌜ r ≡ badCodes (now (words .entry)) i ⌝ }
 {
@@ -108,15 +87,43 @@ fn bad_codes(words: &[u32], i: usize) -> bool
     false
 }
 
+// 3: a ratio beside a fraction. Most nodes have no ratio, so it is read first.
+fn ratio_beside_fraction(words: &[u32], numbers: &[f32], i: usize) -> bool
+    ensures { λ r. ⌜ r ≡ ratioBesideFraction (now (words .entry)) (now (numbers .entry)) i ⌝ }
+{
+    if number(numbers, i, 22) == 0.0 {
+        return false;
+    }
+    let u = word(words, i, 2);
+    let v = word(words, i, 3);
+    if unit(u, v, 1) == 2 {
+        return true;
+    }
+    if unit(u, v, 3) == 2 {
+        return true;
+    }
+    unit(u, v, 5) == 2
+}
+
+// 3, of node i.
+fn bad_style(words: &[u32], numbers: &[f32], i: usize) -> bool
+    ensures { λ r. ⌜ r ≡ badStyle (now (words .entry)) (now (numbers .entry)) i ⌝ }
+{
+    if ratio_beside_fraction(words, numbers, i) {
+        return true;
+    }
+    bad_codes(words, i)
+}
+
 // 3: the lowest node at fault.
-pub(crate) fn first_bad_codes(words: &[u32]) -> Found
+pub(crate) fn first_bad_style(words: &[u32], numbers: &[f32]) -> Found
     requires { ⌜ nodesIn (now words) ≤ 1024 ⌝ }
-    ensures { λ r. ⌜ r ≡ lowest (badCodes (now (words .entry))) (nodesIn (now (words .entry))) ⌝ }
+    ensures { λ r. ⌜ r ≡ lowest (badStyle (now (words .entry)) (now (numbers .entry))) (nodesIn (now (words .entry))) ⌝ }
 {
     let n = words.len() / 4;
     let mut i = 0;
     while i < n {
-        if bad_codes(words, i) {
+        if bad_style(words, numbers, i) {
             return Found::At(NodeId(i as u32));
         }
         i += 1;

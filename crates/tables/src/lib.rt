@@ -12,7 +12,7 @@ ghost use Rattle.steps.specs.Page.{nodesIn};
 ghost use Rattle.tables.specs.TreeCheck.{GoodTable};
 ghost use Rattle.steps.specs.Noes.{badTables, badRows, badTree, no2, no3, no4, no7, pageTested, layoutTested, relayoutTested, sizeTested};
 ghost use Rattle.tables.specs.Walk.{RoomTested};
-use crate::codes::first_bad_codes;
+use crate::codes::first_bad_style;
 use crate::edits::edits_tested;
 use crate::needed::count_needed;
 use crate::needed::records_in;
@@ -85,12 +85,12 @@ pub fn tree_tested(words: &[u32]) -> Tested
     }
 }
 
-// 3.
-pub fn codes_tested(words: &[u32]) -> Tested
+// 3. Where no numbers are lent, every ratio reads as 0.
+pub fn codes_tested(words: &[u32], numbers: &[f32]) -> Tested
     requires { ⌜ nodesIn (now words) ≤ 1024 ⌝ }
-    ensures { λ r. ⌜ r ≡ no3 (now (words .entry)) ⌝ }
+    ensures { λ r. ⌜ r ≡ no3 (now (words .entry)) (now (numbers .entry)) ⌝ }
 {
-    match first_bad_codes(words) {
+    match first_bad_style(words, numbers) {
         Found::Nowhere => Tested::Pass,
         Found::At(i) => Tested::Refuse(Answer::Codes(i)),
     }
@@ -147,7 +147,7 @@ fn page_tested(words: &[u32], numbers: &[f32], q: LayoutInput) -> Tested
     if let Tested::Refuse(a) = tree_tested(words) {
         return Tested::Refuse(a);
     }
-    if let Tested::Refuse(a) = codes_tested(words) {
+    if let Tested::Refuse(a) = codes_tested(words, numbers) {
         return Tested::Refuse(a);
     }
     numbers_tested(words, numbers, q)

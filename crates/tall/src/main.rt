@@ -46,6 +46,7 @@ fn question() -> Question {
     Question {
         known,
         parent: 320.0,
+        definiteHeight: false,
         available: AvailableSpace::Definite(320.0),
         collapseStart: false,
         collapseEnd: false,

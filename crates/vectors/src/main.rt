@@ -67,9 +67,9 @@ fn show_front(text: &[u8], k: usize, out: &mut [u8]) {
 // One node and its width, said over and over: as long as a file may be, up to its last digit and newline, and a byte longer.
 fn run_long(text: &mut [u8], out: &mut [u8]) {
     let head =
-        b"nodes=00000001\nparent=00000000\nknown=none,none\navail=max\nlines=0,0\nnode=00000001,00000000,05555000,00000055\n";
+        b"nodes=000000000000000000001\nparent=00000000\nknown=none,none\navail=max\nlines=0,0,0\nnode=00000001,00000000,05555000,00000055\n";
     repeat(text, 0, head);
-    repeat(text, 108, b"num=0,00000000\n");
+    repeat(text, 123, b"num=0,00000000\n");
     show_front(text, 262141, out);
     show_front(text, 262142, out);
     show_front(text, 262143, out);

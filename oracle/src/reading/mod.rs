@@ -1,19 +1,28 @@
 //! A plain reading of 01: the steps A to N in their order, with nothing kept between questions.
 //! Where block.rs parts from 01, a rule turns the step to block.rs's side. With no rule this is 01,
 //! with all rules it is block.rs; the rules that a page needs say why the two differ on it.
+mod refused;
 mod rows;
 mod sizes;
 mod stack;
 mod widths;
 
 use crate::arithmetic::{clamp, larger, Set};
-use crate::outcome::{Outcome, Row};
+use crate::outcome::{Outcome, Row, BAD_STYLE};
 use crate::page::{field, Align, Ask, Available, Kind, Overflow, Page, Question, BOTTOM, TOP};
 use crate::rules::{Rule, Rules};
-use sizes::{across, down, known_sizes, Item, Numbers, Pair};
+use sizes::{across, definite_height, down, known_sizes, Item, Numbers, Pair};
 use stack::Frame;
 
-/// What the page comes to under these rules. Too large a result is not refused here.
+/// What 01 says of the page, refusals and all.
+pub fn plain(page: &Page) -> Outcome {
+    match (0..page.nodes()).find(|node| refused::bad_style(page, *node)) {
+        Some(node) => Outcome::Refused { number: BAD_STYLE, place: node as u32 },
+        None => answer(page, Rules::NONE).limited(),
+    }
+}
+
+/// What the page comes to under these rules. Nothing is refused here.
 pub fn answer(page: &Page, rules: Rules) -> Outcome {
     let mut reading = Reading { page, rules, rows: vec![Row::default(); page.nodes()] };
     let answer = reading.node(0, &page.question);
@@ -75,7 +84,7 @@ impl Reading<'_> {
 
     fn container(&mut self, node: usize, question: &Question) -> Answer {
         // A, B, C
-        let own = self.numbers(node, question.parent);
+        let own = self.numbers(node, Pair { width: question.parent, height: question.basis });
         let known = known_sizes(question, &own);
         if let Some(answer) = answered_by_known(question.ask, known) {
             return answer;
@@ -83,11 +92,17 @@ impl Reading<'_> {
         // D, E
         let known = self.filled_by_ratio(node, known, &own);
         let inset = self.insets(node, &own);
-        let items = self.items(node, known.width.map(|width| width - across(inset)));
-        // F, G
+        let basis = Pair {
+            width: known.width.map(|width| width - across(inset)),
+            height: definite_height(question, known).map(|height| height - down(inset)),
+        };
+        // F, G. Here no fraction of a height counts.
         let width = match known.width {
             Some(width) => width,
-            None => self.content_width(question.available, &own, inset, &items),
+            None => {
+                let items = self.items(node, Pair { height: None, ..basis });
+                self.content_width(question.available, &own, inset, &items)
+            }
         };
         if let Some(answer) = answered_by_width(question.ask, width, known.height) {
             return answer;
@@ -97,8 +112,16 @@ impl Reading<'_> {
         let own_start = question.start && self.adjoins(node, &own, TOP);
         let own_end = question.end && self.adjoins(node, &own, BOTTOM) && own.size.height.is_none();
         // J, K
-        let inner = self.inner_width(width, inset);
-        let frame = Frame { ask: question.ask, width, inset, inner, rtl: self.page.rtl(node), own_start };
+        let items = self.items(node, basis);
+        let frame = Frame {
+            ask: question.ask,
+            width,
+            inset,
+            inner: self.inner_width(width, inset),
+            basis: self.height_basis(basis.height, &own, inset),
+            rtl: self.page.rtl(node),
+            own_start,
+        };
         let stack = self.stack(&frame, &items);
         let content = self.content_height(&frame, &stack, own_end);
         // L

@@ -2,7 +2,7 @@
 use super::sizes::Item;
 use super::stack::{Frame, Stack};
 use super::{Answer, Reading};
-use crate::outcome::{Candidate, HEIGHT_ASKED, LAID, OUT, PROBED, PROBE_HEIGHT, THROUGH};
+use crate::outcome::{Candidate, BASIS, HEIGHT_ASKED, LAID, OUT, PROBED, PROBE_HEIGHT, THROUGH};
 use crate::page::{Available, Kind, Question, LEFT, RIGHT};
 use crate::rules::Rule;
 
@@ -20,12 +20,16 @@ impl Reading<'_> {
             question.height.unwrap_or(0.0),
             question.parent.unwrap_or(0.0),
         ]);
+        row.numbers[14] = question.basis.unwrap_or(0.0);
         row.bits |= LAID;
         if answer.through {
             row.bits |= THROUGH;
         }
         if question.height.is_some() {
             row.bits |= HEIGHT_ASKED;
+        }
+        if question.basis.is_some() {
+            row.bits |= BASIS;
         }
     }
 

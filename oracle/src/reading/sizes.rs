@@ -53,14 +53,16 @@ impl Reading<'_> {
         [TOP, RIGHT, BOTTOM, LEFT].map(|side| self.length(node, field + side, basis).unwrap_or(0.0))
     }
 
-    pub(super) fn numbers(&self, node: usize, basis: Option<f32>) -> Numbers {
-        let padding = self.sides(node, field::PADDING, basis);
-        let border = self.sides(node, field::BORDER, basis);
+    pub(super) fn numbers(&self, node: usize, basis: Pair) -> Numbers {
+        let padding = self.sides(node, field::PADDING, basis.width);
+        let border = self.sides(node, field::BORDER, basis.width);
         let both = sum(padding, border);
         let (least_width, least_height) = (across(both), down(both));
         let pair = |field| {
-            let styled =
-                Pair { width: self.length(node, field, basis), height: self.length(node, field + 1, basis) };
+            let styled = Pair {
+                width: self.length(node, field, basis.width),
+                height: self.length(node, field + 1, basis.height),
+            };
             let pair = with_ratio(styled, self.page.ratio(node));
             if self.page.content_box(node) {
                 Pair {
@@ -101,7 +103,7 @@ impl Reading<'_> {
         inset
     }
 
-    pub(super) fn items(&self, node: usize, basis: Option<f32>) -> Vec<Item> {
+    pub(super) fn items(&self, node: usize, basis: Pair) -> Vec<Item> {
         let shown = self.page.children(node).filter(|child| self.page.kind(*child) != Kind::Hidden);
         shown.zip(0..).map(|(node, order)| Item { node, order, numbers: self.numbers(node, basis) }).collect()
     }
@@ -130,6 +132,11 @@ pub(super) fn known_sizes(question: &Question, own: &Numbers) -> Pair {
         width: axis(question.width, own.size.width, own.min.width, own.max.width, own.least_width),
         height: axis(question.height, own.size.height, own.min.height, own.max.height, own.least_height),
     }
+}
+
+/// A known height is definite, but for one that the question asks and does not call so.
+pub(super) fn definite_height(question: &Question, known: Pair) -> Option<f32> {
+    known.height.filter(|_| question.height.is_none() || question.definite)
 }
 
 /// A child is asked a height only if it has one.

@@ -1,5 +1,5 @@
 //! Steps J and K: the children one below the other.
-use super::sizes::{across, asked_height, Item, Sides};
+use super::sizes::{across, asked_height, down, Item, Numbers, Sides};
 use super::Reading;
 use crate::arithmetic::{clamp, larger, Set};
 use crate::page::{field, Ask, Available, Position, Question, BOTTOM, LEFT, RIGHT, TOP};
@@ -11,6 +11,8 @@ pub(super) struct Frame {
     pub width: f32,
     pub inset: Sides,
     pub inner: f32,
+    /// The height basis that children are asked with, and that their offsets have.
+    pub basis: Option<f32>,
     pub rtl: bool,
     pub own_start: bool,
 }
@@ -42,6 +44,14 @@ impl Reading<'_> {
         } else {
             inner
         }
+    }
+
+    /// Step E's basis. In its place block.rs may take the height that the style says.
+    pub(super) fn height_basis(&self, basis: Option<f32>, own: &Numbers, inset: Sides) -> Option<f32> {
+        if basis.is_some() || !self.on(Rule::StyledHeightBasis) {
+            return basis;
+        }
+        own.size.height.map(|height| clamp(height, own.min.height, None) - down(inset))
     }
 
     pub(super) fn stack(&mut self, frame: &Frame, items: &[Item]) -> Stack {
@@ -128,7 +138,9 @@ impl Reading<'_> {
             ask: if self.on(Rule::ChildrenAskedSizes) { frame.ask } else { Ask::Layout },
             width: Some(width),
             height,
+            definite: true,
             parent: Some(frame.inner),
+            basis: frame.basis,
             available: Available::Definite(stretch),
             start: same,
             end: same,
@@ -140,10 +152,11 @@ impl Reading<'_> {
         if self.page.position(node) != Position::Relative {
             return (0.0, 0.0);
         }
-        let side = |side| self.length(node, field::INSET + side, Some(frame.inner));
-        let (left, right) = (side(LEFT), side(RIGHT).map(|right| -right));
+        let side = |side, basis| self.length(node, field::INSET + side, basis);
+        let (left, right) =
+            (side(LEFT, Some(frame.inner)), side(RIGHT, Some(frame.inner)).map(|right| -right));
         let x = if frame.rtl { right.or(left) } else { left.or(right) };
-        let y = side(TOP).or(side(BOTTOM).map(|bottom| -bottom));
+        let y = side(TOP, frame.basis).or(side(BOTTOM, frame.basis).map(|bottom| -bottom));
         (x.unwrap_or(0.0), y.unwrap_or(0.0))
     }
 

@@ -1,7 +1,7 @@
 use mathlib.Core.Path.{sym, _∙_}
 use Rattle.steps.specs.Noes.{andThen}
 use Rattle.edges.specs.Tests.{rowsTested, laidTested}
-use Rattle.edges.proofs.Words.{worded}
+use Rattle.edges.proofs.Words.{worded, words-alone}
 use borrow.Author.Needs.{needs}
 use Rattle.edges.proofs.rows_tested.Statement.{statement}
 use Rattle.edges.proofs.rows_tested.Tie as tie
@@ -33,15 +33,18 @@ returns-3 c = rw (← c .before .before .before .tree-tested .ensures, ← c .be
 enum-told : tie.Need-enum-told
 enum-told c = search needs
 
+slice-aggregate-codes-tested : tie.Need-slice-aggregate-codes-tested
+slice-aggregate-codes-tested c = search needs
+
 codes-tested-requires : tie.Need-codes-tested-requires
-codes-tested-requires c κs = worded _ (sym (c .before .before .before .before .before .before .bad-words .ensures) ∙ c .before .before .before .before .before .if1 .left) .few
+codes-tested-requires c κs = worded _ (sym (c .before .before .before .before .before .before .before .bad-words .ensures) ∙ c .before .before .before .before .before .before .if1 .left) .few
 
 enum-known-a-2 : tie.Need-enum-known-a-2
 enum-known-a-2 c = search needs
 
 returns-4 : tie.Need-returns-4
 unfolding rowsTested laidTested andThen
-returns-4 c = rw (← c .before .before .before .codes-tested .ensures, ← c .before .before .before .before .before .before .tree-tested .ensures, ← c .before .before .before .before .before .before .before .before .bad-rows .ensures, ← c .before .before .before .before .before .before .before .before .before .before .bad-words .ensures, c .before .a2 .given .1, c .before .before .before .before .enum-told .given .1, c .before .before .before .before .before .before .before .if2 .left, c .before .before .before .before .before .before .before .before .before .if1 .left)
+returns-4 c = rw (← (c .before .before .before .codes-tested .ensures ∙ words-alone _), ← c .before .before .before .before .before .before .before .tree-tested .ensures, ← c .before .before .before .before .before .before .before .before .before .bad-rows .ensures, ← c .before .before .before .before .before .before .before .before .before .before .before .bad-words .ensures, c .before .a2 .given .1, c .before .before .before .before .before .enum-told .given .1, c .before .before .before .before .before .before .before .before .if2 .left, c .before .before .before .before .before .before .before .before .before .before .if1 .left)
 
 enum-told-2 : tie.Need-enum-told-2
 enum-told-2 c = search needs
@@ -51,7 +54,7 @@ root-tested-requires c κs = search needs
 
 returns-5 : tie.Need-returns-5
 unfolding rowsTested laidTested andThen
-returns-5 c = rw (c .root-tested .ensures, ← c .before .before .before .codes-tested .ensures, ← c .before .before .before .before .before .before .tree-tested .ensures, ← c .before .before .before .before .before .before .before .before .bad-rows .ensures, ← c .before .before .before .before .before .before .before .before .before .before .bad-words .ensures, c .before .enum-told2 .given .1, c .before .before .before .before .enum-told .given .1, c .before .before .before .before .before .before .before .if2 .left, c .before .before .before .before .before .before .before .before .before .if1 .left)
+returns-5 c = rw (c .root-tested .ensures, ← (c .before .before .before .codes-tested .ensures ∙ words-alone _), ← c .before .before .before .before .before .before .before .tree-tested .ensures, ← c .before .before .before .before .before .before .before .before .before .bad-rows .ensures, ← c .before .before .before .before .before .before .before .before .before .before .before .bad-words .ensures, c .before .enum-told2 .given .1, c .before .before .before .before .before .enum-told .given .1, c .before .before .before .before .before .before .before .before .if2 .left, c .before .before .before .before .before .before .before .before .before .before .if1 .left)
 
 pub rows-tested-spec : {M : Type 1} → statement M
 rows-tested-spec =
@@ -65,6 +68,7 @@ rows-tested-spec =
     enum-known-a
     returns-3
     enum-told
+    slice-aggregate-codes-tested
     codes-tested-requires
     enum-known-a-2
     returns-4

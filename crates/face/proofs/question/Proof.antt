@@ -24,12 +24,17 @@ available-of-requires c κs = search needs
 flag-requires-3 : tie.Need-flag-requires-3
 flag-requires-3 c κs = search needs
 
+flag-requires-5 : tie.Need-flag-requires-5
+flag-requires-5 c κs = search needs
+
 flag-requires-4 : tie.Need-flag-requires-4
 flag-requires-4 c κs = search needs
 
 returns : tie.Need-returns
 unfolding plainQuestion
-returns c = rw (c .flag4 .ensures, c .before .flag3 .ensures, c .before .before .available-of .ensures, c .before .before .before .code .ensures, c .before .before .before .before .option2 .ensures, c .before .before .before .before .before .flag2 .ensures, c .before .before .before .before .before .before .option .ensures, c .before .before .before .before .before .before .before .flag .ensures)
+returns c =
+    let at-definite = c .before .before .before .before in
+    rw (c .flag5 .ensures, c .before .flag4 .ensures, c .before .before .available-of .ensures, c .before .before .before .code .ensures, at-definite .flag3 .ensures, at-definite .before .option2 .ensures, at-definite .before .before .flag2 .ensures, at-definite .before .before .before .option .ensures, at-definite .before .before .before .before .flag .ensures)
 
 pub question-spec : {M : Type 1} → statement M
 question-spec =
@@ -39,8 +44,9 @@ question-spec =
     option-requires
     flag-requires-2
     option-requires-2
+    flag-requires-3
     code-requires
     available-of-requires
-    flag-requires-3
     flag-requires-4
+    flag-requires-5
     returns)

@@ -3,8 +3,8 @@ use borrow.Author.Needs.{needs}
 use Rattle.frames.proofs.frame_of.Statement.{statement}
 use Rattle.frames.proofs.frame_of.Tie as tie
 
-sizing-of-requires : tie.Need-sizing-of-requires
-sizing-of-requires c κs = search needs
+sizing-in-requires : tie.Need-sizing-in-requires
+sizing-in-requires c κs = search needs
 
 known-dimensions-requires : tie.Need-known-dimensions-requires
 known-dimensions-requires c κs = search needs
@@ -17,13 +17,13 @@ frame-by-requires c κs = search needs
 
 returns : tie.Need-returns
 unfolding frameOf
-returns c = rw (c .frame-by .ensures, c .before .unwrap-or .ensures, c .before .before .known-dimensions .ensures, c .before .before .before .sizing-of .ensures)
+returns c = rw (c .frame-by .ensures, c .before .unwrap-or .ensures, c .before .before .known-dimensions .ensures, c .before .before .before .sizing-in .ensures)
 
 pub frame-of-spec : {M : Type 1} → statement M
 frame-of-spec =
     tie.close
     (tie.spec
-    sizing-of-requires
+    sizing-in-requires
     known-dimensions-requires
     unwrap-or-requires
     frame-by-requires

@@ -18,6 +18,9 @@ content-box-inset-requires-2 c κs = search needs
 content-basis-requires : tie.Need-content-basis-requires
 content-basis-requires c κs = search needs
 
+basis-below-requires : tie.Need-basis-below-requires
+basis-below-requires c κs = search needs
+
 edge-adjoins-requires : tie.Need-edge-adjoins-requires
 edge-adjoins-requires c κs = search needs
 
@@ -29,7 +32,10 @@ is-hollow-requires c κs = search needs
 
 returns : tie.Need-returns
 unfolding stepI
-returns c = rw (c .is-hollow .ensures, c .before .own-end .ensures, c .before .before .edge-adjoins .ensures, c .before .before .before .content-basis .ensures, c .before .before .before .before .content-box-inset2 .ensures, c .before .before .before .before .before .vertical-axis-sum .ensures, c .before .before .before .before .before .before .content-box-inset .ensures, c .before .before .before .before .before .before .before .add .ensures)
+returns c =
+    let at-basis = c .before .before .before in
+    let at-inset = at-basis .before .before .before .before in
+    rw (c .is-hollow .ensures, c .before .own-end .ensures, c .before .before .edge-adjoins .ensures, at-basis .basis-below .ensures, at-basis .before .content-basis .ensures, at-basis .before .before .vertical-axis-sum .ensures, at-basis .before .before .before .content-box-inset2 .ensures, at-inset .content-box-inset .ensures, at-inset .before .add .ensures)
 
 pub framed-by-spec : {M : Type 1} → statement M
 framed-by-spec =
@@ -37,9 +43,10 @@ framed-by-spec =
     (tie.spec
     add-requires
     content-box-inset-requires
-    vertical-axis-sum-requires
     content-box-inset-requires-2
+    vertical-axis-sum-requires
     content-basis-requires
+    basis-below-requires
     edge-adjoins-requires
     own-end-requires
     is-hollow-requires

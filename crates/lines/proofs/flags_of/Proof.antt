@@ -18,6 +18,12 @@ enum-told-2 c = search needs
 enum-known-b : tie.Need-enum-known-b
 enum-known-b c = search needs
 
+enum-told-3 : tie.Need-enum-told-3
+enum-told-3 c = search needs
+
+enum-known-c : tie.Need-enum-known-c
+enum-known-c c = search needs
+
 returns : tie.Need-returns
 unfolding flagsOf
 returns c = rw (c .enum-told .given .1)
@@ -28,9 +34,23 @@ returns-2 c = rw (c .enum-told2 .given .1, c .before .before .before .a .given .
 
 returns-3 : tie.Need-returns-3
 unfolding flagsOf
-returns-3 c = rw (c .before .b .given .1, c .before .before .before .before .a .given .1)
+returns-3 c = rw (c .enum-told3 .given .1, c .before .before .before .b .given .1, c .before .before .before .before .before .before .a .given .1)
+
+returns-4 : tie.Need-returns-4
+unfolding flagsOf
+returns-4 c = rw (c .before .c .given .1, c .before .before .before .before .b .given .1, c .before .before .before .before .before .before .before .a .given .1)
 
 pub flags-of-spec : {M : Type 1} → statement M
 flags-of-spec =
     tie.close
-    (tie.spec enum-told enum-known-a enum-told-2 enum-known-b returns returns-2 returns-3)
+    (tie.spec
+    enum-told
+    enum-known-a
+    enum-told-2
+    enum-known-b
+    enum-told-3
+    enum-known-c
+    returns
+    returns-2
+    returns-3
+    returns-4)

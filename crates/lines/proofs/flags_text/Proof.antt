@@ -22,7 +22,7 @@ separators-requires c κs = search needs
 
 returns : tie.Need-returns
 unfolding flagsText
-returns c = rw (c .before .separators .ensures, ne-eqb (c .before .separators .result + 1) 2 (λ e. c .if1 .taken (omega arith)))
+returns c = rw (c .before .separators .ensures, ne-eqb (c .before .separators .result + 1) 3 (λ e. c .if1 .taken (omega arith)))
 
 flag-field-requires : tie.Need-flag-field-requires
 flag-field-requires c κs = search needs
@@ -30,12 +30,17 @@ flag-field-requires c κs = search needs
 flag-field-requires-2 : tie.Need-flag-field-requires-2
 flag-field-requires-2 c κs = search needs
 
+flag-field-requires-3 : tie.Need-flag-field-requires-3
+flag-field-requires-3 c κs = search needs
+
 flags-of-requires : tie.Need-flags-of-requires
 flags-of-requires c κs = search needs
 
 returns-2 : tie.Need-returns-2
 unfolding flagsText
-returns-2 c = rw (c .before .before .before .before .separators .ensures, eq-eqb (c .before .before .before .before .separators .result + 1) 2 (omega arith)) ((rw (← c .before .before .flag-field .ensures, ← c .before .flag-field2 .ensures) (c .flags-of .ensures)))
+returns-2 c =
+    let at-count = c .before .before .before .before .before in
+    rw (at-count .separators .ensures, eq-eqb (at-count .separators .result + 1) 3 (omega arith)) ((rw (← c .before .before .before .flag-field .ensures, ← c .before .before .flag-field2 .ensures, ← c .before .flag-field3 .ensures) (c .flags-of .ensures)))
 
 pub flags-text-spec : {M : Type 1} → statement M
 flags-text-spec =
@@ -45,5 +50,6 @@ flags-text-spec =
     returns
     flag-field-requires
     flag-field-requires-2
+    flag-field-requires-3
     flags-of-requires
     returns-2)

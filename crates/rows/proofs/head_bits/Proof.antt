@@ -27,9 +27,18 @@ mul-result-3 c = search needs
 add-result-3 : tie.Need-add-result-3
 add-result-3 c = search needs
 
+one-requires-3 : tie.Need-one-requires-3
+one-requires-3 c κs = search needs
+
+mul-result-4 : tie.Need-mul-result-4
+mul-result-4 c = search needs
+
+add-result-4 : tie.Need-add-result-4
+add-result-4 c = search needs
+
 returns : tie.Need-returns
 unfolding headBits
-returns c = rw (c .one2 .ensures .0, c .before .one .ensures .0)
+returns c = rw (c .one3 .ensures .0, c .before .one2 .ensures .0, c .before .before .one .ensures .0)
 
 pub head-bits-spec : {M : Type 1} → statement M
 head-bits-spec =
@@ -43,4 +52,7 @@ head-bits-spec =
     add-result-2
     mul-result-3
     add-result-3
+    one-requires-3
+    mul-result-4
+    add-result-4
     returns)

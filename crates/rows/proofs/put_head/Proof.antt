@@ -49,6 +49,9 @@ or-zero-requires-3 c κs = search needs
 slice-write-rows-11 : tie.Need-slice-write-rows-11
 slice-write-rows-11 c = simp length-set (omega arith)
 
+or-zero-requires-4 : tie.Need-or-zero-requires-4
+or-zero-requires-4 c κs = search needs
+
 slice-write-rows-12 : tie.Need-slice-write-rows-12
 slice-write-rows-12 c = simp length-set (omega arith)
 
@@ -64,6 +67,9 @@ slice-read-head-bits c = search needs
 is-some-requires : tie.Need-is-some-requires
 is-some-requires c κs = search needs
 
+is-some-requires-2 : tie.Need-is-some-requires-2
+is-some-requires-2 c κs = search needs
+
 head-bits-requires : tie.Need-head-bits-requires
 head-bits-requires c κs = search needs
 
@@ -78,7 +84,9 @@ same-length-2 c = search needs
 
 returns : tie.Need-returns
 unfolding probeOf laidRow headBits
-returns c = λ r z y er em. (rw (c .before .before .before .or-zero3 .ensures, c .before .before .before .before .or-zero2 .ensures, c .before .before .before .before .before .or-zero .ensures, er), rw (c .head-bits .ensures, c .before .is-some .ensures, em))
+returns c =
+    let at-basis = c .before .before .before .before in
+    λ r z y er em. (rw (at-basis .or-zero4 .ensures, at-basis .before .or-zero3 .ensures, at-basis .before .before .or-zero2 .ensures, at-basis .before .before .before .or-zero .ensures, er), rw (c .head-bits .ensures, c .before .is-some2 .ensures, c .before .before .is-some .ensures, em))
 
 pub put-head-spec : {M : Type 1} → statement M
 put-head-spec =
@@ -98,11 +106,13 @@ put-head-spec =
     slice-write-rows-10
     or-zero-requires-3
     slice-write-rows-11
+    or-zero-requires-4
     slice-write-rows-12
     slice-write-rows-13
     slice-write-marks
     slice-read-head-bits
     is-some-requires
+    is-some-requires-2
     head-bits-requires
     slice-write-marks-2
     same-length

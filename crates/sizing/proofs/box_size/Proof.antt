@@ -1,4 +1,4 @@
-use Rattle.steps.specs.Sizing.{boxSize, heightBasis}
+use Rattle.steps.specs.Sizing.{boxSize}
 use borrow.Author.Needs.{needs}
 use Rattle.sizing.proofs.box_size.Statement.{statement}
 use Rattle.sizing.proofs.box_size.Tie as tie
@@ -16,11 +16,11 @@ maybe-add-requires : tie.Need-maybe-add-requires
 maybe-add-requires c κs = search needs
 
 returns : tie.Need-returns
-unfolding boxSize heightBasis
+unfolding boxSize
 returns c = rw (c .maybe-add .ensures, c .before .sum-axes .ensures, c .before .before .before .maybe-apply-aspect-ratio .ensures, c .before .before .if1 .taken, c .before .before .before .before .resolve-axes .ensures)
 
 returns-2 : tie.Need-returns-2
-unfolding boxSize heightBasis
+unfolding boxSize
 returns-2 c = rw (c .before .maybe-apply-aspect-ratio .ensures, c .if1 .left, c .before .before .resolve-axes .ensures)
 
 pub box-size-spec : {M : Type 1} → statement M

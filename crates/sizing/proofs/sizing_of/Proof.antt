@@ -1,4 +1,4 @@
-use Rattle.steps.specs.Sizing.{stepA, sizedBy}
+use Rattle.steps.specs.Sizing.{sizingOf, stepA, sizedBy}
 use borrow.Author.Needs.{needs}
 use Rattle.sizing.proofs.sizing_of.Statement.{statement}
 use Rattle.sizing.proofs.sizing_of.Tie as tie
@@ -22,7 +22,7 @@ box-size-requires-3 : tie.Need-box-size-requires-3
 box-size-requires-3 c κs = search needs
 
 returns : tie.Need-returns
-unfolding stepA sizedBy
+unfolding stepA sizingOf sizedBy
 returns c = rw (c .box-size3 .ensures, c .before .box-size2 .ensures, c .before .before .box-size .ensures, c .before .before .before .before .before .before .add .ensures, c .before .before .before .before .before .before .before .resolve-sides2 .ensures, c .before .before .before .before .before .before .before .before .resolve-sides .ensures)
 
 pub sizing-of-spec : {M : Type 1} → statement M

@@ -6,8 +6,8 @@ use Rattle.stacking.proofs.item_of.Tie as tie
 inner-width-requires : tie.Need-inner-width-requires
 inner-width-requires c κs = search needs
 
-sizing-of-requires : tie.Need-sizing-of-requires
-sizing-of-requires c κs = search needs
+sizing-in-requires : tie.Need-sizing-in-requires
+sizing-in-requires c κs = search needs
 
 resolve-sides-requires : tie.Need-resolve-sides-requires
 resolve-sides-requires c κs = search needs
@@ -23,14 +23,14 @@ offset-by-requires c κs = search needs
 
 returns : tie.Need-returns
 unfolding itemOf
-returns c = rw (c .offset-by .ensures, c .before .is-auto2 .ensures, c .before .before .is-auto .ensures, c .before .before .before .resolve-sides .ensures, c .before .before .before .before .sizing-of .ensures, c .before .before .before .before .before .inner-width .ensures)
+returns c = rw (c .offset-by .ensures, c .before .is-auto2 .ensures, c .before .before .is-auto .ensures, c .before .before .before .resolve-sides .ensures, c .before .before .before .before .sizing-in .ensures, c .before .before .before .before .before .inner-width .ensures)
 
 pub item-of-spec : {M : Type 1} → statement M
 item-of-spec =
     tie.close
     (tie.spec
     inner-width-requires
-    sizing-of-requires
+    sizing-in-requires
     resolve-sides-requires
     is-auto-requires
     is-auto-requires-2

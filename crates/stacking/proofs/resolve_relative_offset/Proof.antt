@@ -1,4 +1,3 @@
-use Rattle.steps.specs.Sizing.{heightBasis}
 use Rattle.steps.specs.Stack.{relativeOffset}
 use borrow.Author.Needs.{needs}
 use Rattle.stacking.proofs.resolve_relative_offset.Statement.{statement}
@@ -29,7 +28,7 @@ or-zero-requires : tie.Need-or-zero-requires
 or-zero-requires c κs = search needs
 
 returns : tie.Need-returns
-unfolding relativeOffset heightBasis
+unfolding relativeOffset
 returns c = rw (c .or-zero .ensures, c .before .or .ensures, c .before .before .negated .ensures, c .before .before .before .maybe-resolve4 .ensures, c .before .before .before .before .maybe-resolve3 .ensures, c .before .before .before .before .before .offset-x .ensures, c .before .before .before .before .before .before .maybe-resolve2 .ensures, c .before .before .before .before .before .before .before .maybe-resolve .ensures)
 
 pub resolve-relative-offset-spec : {M : Type 1} → statement M

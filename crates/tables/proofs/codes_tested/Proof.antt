@@ -3,8 +3,8 @@ use borrow.Author.Needs.{needs}
 use Rattle.tables.proofs.codes_tested.Statement.{statement}
 use Rattle.tables.proofs.codes_tested.Tie as tie
 
-first-bad-codes-requires : tie.Need-first-bad-codes-requires
-first-bad-codes-requires c κs = search needs
+first-bad-style-requires : tie.Need-first-bad-style-requires
+first-bad-style-requires c κs = search needs
 
 enum-told : tie.Need-enum-told
 enum-told c = search needs
@@ -14,12 +14,12 @@ enum-known-i c = search needs
 
 returns : tie.Need-returns
 unfolding no3 andThen atFault
-returns c = rw (← c .before .before .first-bad-codes .ensures, c .enum-told .given .1)
+returns c = rw (← c .before .before .first-bad-style .ensures, c .enum-told .given .1)
 
 returns-2 : tie.Need-returns-2
 unfolding no3 andThen atFault
-returns-2 c = rw (← c .before .before .before .first-bad-codes .ensures, c .before .i .given .1)
+returns-2 c = rw (← c .before .before .before .first-bad-style .ensures, c .before .i .given .1)
 
 pub codes-tested-spec : {M : Type 1} → statement M
 codes-tested-spec =
-    tie.close (tie.spec first-bad-codes-requires enum-told enum-known-i returns returns-2)
+    tie.close (tie.spec first-bad-style-requires enum-told enum-known-i returns returns-2)

@@ -1,0 +1,36 @@
+-- Computed of 3: which numbers are a ratio beside a fraction, and beside which fields. Of 8: which numbers of a row are tested.
+use mathlib.Core.Path.{_≡_, refl}
+use mathlib.Core.Bool.{Bool, true, false}
+use mathlib.Core.List.{List, [], _∷_, _++_, map}
+use Prim.Native.Nat.{ℕ, _*_, _-_, _^_}
+use lib.ListN.{replicate}
+use lib.Ieee.{eq, lt, neg, ofBits, binary32}
+use Rattle.geometry.specs.Geometry.{zeroF}
+use Rattle.limits.specs.Limits.{limit, tooLarge}
+use Rattle.style.specs.Codes.{unitOf}
+use Rattle.style.specs.Style.{wordAt, numberAt}
+use Rattle.steps.specs.Scan.{scan}
+use Rattle.steps.specs.Noes.{ratioBesideFraction, badRow}
+
+-- one node whose field f is a fraction, with the ratio of these bits
+abbrev refused : ℕ → ℕ → Bool
+refused b f = ratioBesideFraction (1 ∷ 0 ∷ 2 * 4 ^ f ∷ 0 ∷ []) (replicate 22 zeroF ++ (ofBits binary32 b ∷ [])) 0
+
+-- 0 and -0 are none; 1 and NaN are one
+pub ratios : map (λ (b : ℕ). refused b 1) (0 ∷ 0x8000_0000 ∷ 0x3f80_0000 ∷ 0x7fc0_0000 ∷ []) ≡ false ∷ false ∷ true ∷ true ∷ []
+unfolding ratioBesideFraction wordAt numberAt unitOf eq lt ofBits
+ratios = refl
+
+-- of the first seven fields beside 1, 3 and 5
+pub heights : map (refused 0x3f80_0000) (0 ∷ 1 ∷ 2 ∷ 3 ∷ 4 ∷ 5 ∷ 6 ∷ []) ≡ false ∷ true ∷ false ∷ true ∷ false ∷ true ∷ false ∷ []
+unfolding ratioBesideFraction wordAt numberAt unitOf eq lt ofBits
+heights = refl
+
+-- a row whose number k alone is too large
+abbrev largeAt : ℕ → Bool
+largeAt k = badRow (replicate k zeroF ++ (limit ∷ replicate (15 - k) zeroF)) 0
+
+-- number 14 is tested, 15 is not
+pub last-tested : map largeAt (0 ∷ 13 ∷ 14 ∷ 15 ∷ []) ≡ true ∷ true ∷ true ∷ false ∷ []
+unfolding badRow scan tooLarge lt neg ofBits
+last-tested = refl
