@@ -1,10 +1,10 @@
-// Steps H and I: a container's frame (the crate's compute_inner up to its items).
+// Step I: a container's frame (the crate's compute_inner up to its items).
 ghost use mathlib.Core.Path.{_≡_};
 ghost use Rattle.style.specs.Flow.{isIn};
 ghost use Rattle.steps.specs.Context.{clips, isNormal, newContext, plainBlock};
 ghost use Rattle.steps.specs.Through.{openBox, hollowBox};
 ghost use Rattle.steps.specs.HeightBasis.{definiteOf, basisBelow};
-ghost use Rattle.steps.specs.Edges.{adjoins, ownEndOf, stepI, frameBy, frameOf};
+ghost use Rattle.steps.specs.Edges.{adjoins, ownEndOf, stepI, frameOf};
 use geometry::Rect;
 use steps::Frame;
 use steps::LayoutInput;
@@ -155,36 +155,29 @@ fn basis_below(q: LayoutInput, known: OptionSize, inset: Rect) -> OptionF32
     definite_of(q, height).maybe_sub(inset.vertical_axis_sum())
 }
 
-fn framed_by(
-    s: Style,
-    q: LayoutInput,
-    z: Sizing,
-    known: OptionSize,
-    width: f32,
-    padding: Rect,
-    border: Rect,
-) -> Frame
-    ensures { λ r. ⌜ r ≡ stepI s q z known width padding border ⌝ }
+fn framed_by(s: Style, q: LayoutInput, z: Sizing, known: OptionSize, width: f32) -> Frame
+    ensures { λ r. ⌜ r ≡ stepI s q z known width ⌝ }
 {
+    let padding = z.padding;
+    let border = z.border;
+    let both = z.both;
     let size = z.size;
     let min = z.min;
     let max = z.max;
-    let zb = z.both;
     let height = known.height;
     let sh = size.height;
     let lo = min.height;
     let hi = max.height;
-    let both = padding.add(border);
-    let inner = sizing::content_box_inset(s, zb);
+    let inset = sizing::content_box_inset(s, both);
     Frame {
         width,
         height,
-        inset: sizing::content_box_inset(s, both),
+        inset,
         floor: both.vertical_axis_sum(),
         minHeight: lo,
         maxHeight: hi,
-        basis: sizing::content_basis(known, inner),
-        heightBasis: basis_below(q, known, inner),
+        basis: sizing::content_basis(known, inset),
+        heightBasis: basis_below(q, known, inset),
         ownStart: edge_adjoins(s, q.collapseStart, padding.top, border.top),
         ownEnd: own_end(s, q.collapseEnd, padding.bottom, border.bottom, sh),
         hollow: is_hollow(s, q.nested, padding, border),
@@ -192,25 +185,7 @@ fn framed_by(
     }
 }
 
-fn frame_by(s: Style, q: LayoutInput, z: Sizing, known: OptionSize, width: f32) -> Frame
-    ensures { λ r. ⌜ r ≡ frameBy s q z known width ⌝ }
-{
-    let sp = s.padding;
-    let sb = s.border;
-    let parent = q.parent;
-    let basis = OptionF32::Some(parent.unwrap_or(width));
-    framed_by(
-        s,
-        q,
-        z,
-        known,
-        width,
-        sp.resolve_sides(basis),
-        sb.resolve_sides(basis),
-    )
-}
-
-// Steps A, B, D, E, H and I.
+// Steps A, B, D, E and I.
 pub fn frame_of(s: Style, q: LayoutInput, found: f32) -> Frame
     ensures { λ r. ⌜ r ≡ frameOf s q found ⌝ }
 {
@@ -220,5 +195,5 @@ pub fn frame_of(s: Style, q: LayoutInput, found: f32) -> Frame
     let z = sizing::sizing_in(s, parent, basis);
     let known = sizing::known_dimensions(s, z, asked);
     let w = known.width;
-    frame_by(s, q, z, known, w.unwrap_or(found))
+    framed_by(s, q, z, known, w.unwrap_or(found))
 }

@@ -25,3 +25,4 @@ pub mod Public
 pub mod Demand3
 pub mod Examples
 pub mod Cheats
+pub mod StepH

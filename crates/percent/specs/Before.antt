@@ -21,7 +21,7 @@ use Rattle.steps.specs.Row.{Row, ProbeWords, bit, isLaid, isOut, bare, noRow, h
 use Rattle.steps.specs.Page.{Site, Cell, Node, blank}
 use Rattle.steps.specs.Question.{rootInput}
 use Rattle.steps.specs.Sizing.{knownOf}
-use Rattle.steps.specs.Edges.{frameOf, frameBy, stepI}
+use Rattle.steps.specs.Edges.{frameOf, stepI}
 use Rattle.steps.specs.Stack.{innerWidth, startOf, itemOf, askedWidth, childInput, questionTo, atTop, gapOf, freeOf, placeX, placeY, placeOf, pastBox, stepped, lineOf, edgesOf, pastAside, pastHidden}
 use Rattle.steps.specs.Height.{extraOf, stepK, stepL, heldOpen, stillOwnEnd, stepM}
 use Rattle.steps.specs.Through.{stepN, outputOf, finished, leafOutput}
@@ -149,7 +149,7 @@ unbased q =
 
 -- the frame, and what is asked in it
 frame-same : (s : Style) (q : LayoutInput) (found : Float) → NoHeightParts s → noBasis (frameOf s q found) ≡ noBasis (frameOf s (unbased q) found)
-unfolding frameOf frameBy stepI
+unfolding frameOf stepI
 frame-same s q found n = rw (whole-sizing s (q .parent) (q .basis) None (n .sizes))
 
 item-same : (f : Frame) (s : Style) → NoHeightParts s → itemOf f s ≡ itemOf (noBasis f) s

@@ -23,7 +23,7 @@ use Rattle.steps.specs.Row.{Row, ProbeWords, bare, hiddenRow, asideRow, laidRow
 use Rattle.steps.specs.Page.{Site, Cell, Node, blank}
 use Rattle.steps.specs.Question.{rootInput}
 use Rattle.steps.specs.Sizing.{sizingOf, stepA, stepB, stepD, filled, knownAxis, knownOf, gutter, insets, contentBasis}
-use Rattle.steps.specs.Edges.{frameOf, frameBy, stepI}
+use Rattle.steps.specs.Edges.{frameOf, stepI}
 use Rattle.steps.specs.Stack.{innerWidth, startOf, offsetX, relativeOffset, offsetBy, itemOf, askedWidth, childInput, questionTo, freeOf, placeX, placeOf, stepped, lineOf, edgesOf, pastAside, pastHidden}
 use Rattle.steps.specs.Through.{outputOf, finished, leafOutput}
 use Rattle.steps.specs.Probe.{Passed, widthPass}
@@ -50,12 +50,12 @@ pub record SameFrame (f g : Frame) : Type 0 where
   pub basis : f .basis ≡ g .basis
   pub rtl : f .rtl ≡ g .rtl
 
-frame-by : (s : Style) (q p : LayoutInput) (z y : Sizing) (k j : OptionSize) (v w : Float) → z .both ≡ y .both → k .width ≡ j .width → q .parent ≡ p .parent → v ≡ w
-    → SameFrame (frameBy s q z k v) (frameBy (autoHeights s) p y j w)
-unfolding frameBy stepI insets gutter contentBasis
-frame-by s q p z y k j v w a b c d = record {
+frame-by : (s : Style) (q p : LayoutInput) (z y : Sizing) (k j : OptionSize) (v w : Float) → z .both ≡ y .both → k .width ≡ j .width → v ≡ w
+    → SameFrame (stepI s q z k v) (stepI (autoHeights s) p y j w)
+unfolding stepI insets gutter contentBasis
+frame-by s q p z y k j v w a b d = record {
   width = d;
-  inset = rw (c, d);
+  inset = rw a;
   basis = rw (a, b);
   rtl = refl;
 }
@@ -72,7 +72,7 @@ frame-child s q p w found a d e c =
     let y = sizingOf (autoHeights s) (p .parent) (p .basis) in
     let h : SameAcross z y = rw (c) (sizing-across s (p .parent) (q .basis) (p .basis) a) in
     let k : knownOf s z (q .known) .width ≡ knownOf (autoHeights s) y (p .known) .width = known-asked s z (q .known) w d ∙ ap (λ b. Some (larger w (across b))) (h .both) ∙ sym (known-asked (autoHeights s) y (p .known) w e) in
-    frame-by s q p z y _ _ _ _ (h .both) k c (ap (λ (o : OptionF32). unwrapOr o found) k)
+    frame-by s q p z y _ _ _ _ (h .both) k (ap (λ (o : OptionF32). unwrapOr o found) k)
 
 -- at the root no height has a basis
 no-basis : (s : Style) (q : LayoutInput) → q .basis ≡ None → sizingOf s (q .parent) (q .basis) ≡ stepA s (q .parent)
@@ -85,7 +85,7 @@ frame-root s q found e =
     let z = no-basis s q e in
     let y = no-basis (autoHeights s) q e in
     let k = sym (known-auto s (q .parent) (q .known)) in
-    rw (z, y) (frame-by s q q (stepA s (q .parent)) (stepA (autoHeights s) (q .parent)) _ _ _ _ (ap (λ (x : Sizing). x .both) (sym (auto-A s (q .parent)))) (ap (λ (o : OptionSize). o .width) k) refl (ap (λ (o : OptionSize). unwrapOr (o .width) found) k))
+    rw (z, y) (frame-by s q q (stepA s (q .parent)) (stepA (autoHeights s) (q .parent)) _ _ _ _ (ap (λ (x : Sizing). x .both) (sym (auto-A s (q .parent)))) (ap (λ (o : OptionSize). o .width) k) (ap (λ (o : OptionSize). unwrapOr (o .width) found) k))
 
 -- ---- what is asked of a child, and where it stands
 inner-same : (f g : Frame) → SameFrame f g → innerWidth f ≡ innerWidth g

@@ -12,12 +12,12 @@ known-dimensions-requires c κs = search needs
 unwrap-or-requires : tie.Need-unwrap-or-requires
 unwrap-or-requires c κs = search needs
 
-frame-by-requires : tie.Need-frame-by-requires
-frame-by-requires c κs = search needs
+framed-by-requires : tie.Need-framed-by-requires
+framed-by-requires c κs = search needs
 
 returns : tie.Need-returns
 unfolding frameOf
-returns c = rw (c .frame-by .ensures, c .before .unwrap-or .ensures, c .before .before .known-dimensions .ensures, c .before .before .before .sizing-in .ensures)
+returns c = rw (c .framed-by .ensures, c .before .unwrap-or .ensures, c .before .before .known-dimensions .ensures, c .before .before .before .sizing-in .ensures)
 
 pub frame-of-spec : {M : Type 1} → statement M
 frame-of-spec =
@@ -26,5 +26,5 @@ frame-of-spec =
     sizing-in-requires
     known-dimensions-requires
     unwrap-or-requires
-    frame-by-requires
+    framed-by-requires
     returns)

@@ -3,17 +3,11 @@ use borrow.Author.Needs.{needs}
 use Rattle.frames.proofs.framed_by.Statement.{statement}
 use Rattle.frames.proofs.framed_by.Tie as tie
 
-add-requires : tie.Need-add-requires
-add-requires c κs = search needs
-
 content-box-inset-requires : tie.Need-content-box-inset-requires
 content-box-inset-requires c κs = search needs
 
 vertical-axis-sum-requires : tie.Need-vertical-axis-sum-requires
 vertical-axis-sum-requires c κs = search needs
-
-content-box-inset-requires-2 : tie.Need-content-box-inset-requires-2
-content-box-inset-requires-2 c κs = search needs
 
 content-basis-requires : tie.Need-content-basis-requires
 content-basis-requires c κs = search needs
@@ -34,16 +28,13 @@ returns : tie.Need-returns
 unfolding stepI
 returns c =
     let at-basis = c .before .before .before in
-    let at-inset = at-basis .before .before .before .before in
-    rw (c .is-hollow .ensures, c .before .own-end .ensures, c .before .before .edge-adjoins .ensures, at-basis .basis-below .ensures, at-basis .before .content-basis .ensures, at-basis .before .before .vertical-axis-sum .ensures, at-basis .before .before .before .content-box-inset2 .ensures, at-inset .content-box-inset .ensures, at-inset .before .add .ensures)
+    rw (c .is-hollow .ensures, c .before .own-end .ensures, c .before .before .edge-adjoins .ensures, at-basis .basis-below .ensures, at-basis .before .content-basis .ensures, at-basis .before .before .vertical-axis-sum .ensures, at-basis .before .before .before .content-box-inset .ensures)
 
 pub framed-by-spec : {M : Type 1} → statement M
 framed-by-spec =
     tie.close
     (tie.spec
-    add-requires
     content-box-inset-requires
-    content-box-inset-requires-2
     vertical-axis-sum-requires
     content-basis-requires
     basis-below-requires
