@@ -243,7 +243,8 @@ uint64_t mearrasot_relayout(const uint32_t *words, size_t words_len,
 
 /*
  * The size of the page alone: width and height go to size[0] and size[1], 0 and
- * 0 if refused. With MEARRASOT_WIDTH_ONLY the height is 0 unless it is known.
+ * 0 if refused. It is the size that a layout of the same question gives the
+ * root. With MEARRASOT_WIDTH_ONLY the height is 0 unless it is known.
  */
 uint64_t mearrasot_size(const uint32_t *words, size_t words_len,
                         const float *numbers, size_t numbers_len,

@@ -30,6 +30,7 @@ rules! {
     11 AskedNotRaised "asked-not-raised"
     12 ChildrenAskedSizes "children-asked-sizes"
     13 StyledHeightBasis "styled-height-basis"
+    14 RatioHeightAsIs "ratio-height-as-is"
 }
 
 impl Rule {

@@ -152,7 +152,7 @@ page1 = record { words = block 1 minAndMaxWidth []; numbers = given 0 2 px100 �
 unfoldable pub page2 : Checked
 page2 = record { words = block 1 0 []; numbers = given 0 10 px15 ∷ []; parent = px100; width = hundred; flags = false; asked = size Horizontal; expected = 0 ∷ px100 ∷ 0 ∷ [] }
 
--- (3) ratio 10, padding 15 and 15: asked 100x10, laid 100x30
+-- (3) ratio 10, padding 15 and 15: asked and laid, 100x30
 unfoldable pub page3 : Asked → List ℕ → Checked
 page3 a e = record { words = block 1 0 []; numbers = given 0 22 px10 ∷ given 0 10 px15 ∷ given 0 12 px15 ∷ []; parent = px100; width = hundred; flags = false; asked = a; expected = e }
 
@@ -215,7 +215,7 @@ unfoldable pub table : List Checked
 table =
     page1
     ∷ page2
-    ∷ page3 (size Both) (0 ∷ px100 ∷ px10 ∷ [])
+    ∷ page3 (size Both) (0 ∷ px100 ∷ px30 ∷ [])
     ∷ page3 (rows (2 ∷ 3 ∷ [])) (0 ∷ px100 ∷ px30 ∷ [])
     ∷ between px20 px30 px40
     ∷ between px20 (minus px5) px25

@@ -26,3 +26,4 @@ pub mod Demand3
 pub mod Examples
 pub mod Cheats
 pub mod StepH
+pub mod AskOnce

@@ -19,12 +19,13 @@ unfolding fresh relaid
 fresh-dry t q = nodes-size t (widthPass (mapT blank t) q .nodes) (pass-dry t q .nodes) q (widthPass (mapT blank t) q .found)
 
 below-dry : (s : Site) (ks : Forest Site) (q : LayoutInput) (a : RequestedAxis)
-    → restT (node s ks) q a ≡ sizeBelow a (stepD (s .style) (stepA (s .style) (q .parent)) (stepB (stepA (s .style) (q .parent)) (q .known))) (widthPass (mapT blank (node s ks)) q .found) (fresh (node s ks) q .out .size)
+    → restT (node s ks) q a ≡ sizeBelow a (stepA (s .style) (q .parent)) (stepD (s .style) (stepA (s .style) (q .parent)) (stepB (stepA (s .style) (q .parent)) (q .known))) (widthPass (mapT blank (node s ks)) q .found) (fresh (node s ks) q .out .size)
 unfolding restT knownOf rootT
 below-dry s ks q a =
     let k = stepD (s .style) (stepA (s .style) (q .parent)) (stepB (stepA (s .style) (q .parent)) (q .known)) in
-    ap (λ (x : Float). sizeBelow a k x (sizeT (node s ks) q x .size)) (pass-dry (node s ks) q .found)
-    ∙ ap (λ (o : LayoutOutput). sizeBelow a k (widthPass (mapT blank (node s ks)) q .found) (o .size)) (fresh-dry (node s ks) q)
+    let z = stepA (s .style) (q .parent) in
+    ap (λ (x : Float). sizeBelow a z k x (sizeT (node s ks) q x .size)) (pass-dry (node s ks) q .found)
+    ∙ ap (λ (o : LayoutOutput). sizeBelow a z k (widthPass (mapT blank (node s ks)) q .found) (o .size)) (fresh-dry (node s ks) q)
 
 pub size-dry : (t : Tree Site) (q : LayoutInput) (a : RequestedAxis) → drySize t q a ≡ sizeOf t q a
 unfolding drySize sizeOf rootT

@@ -5,8 +5,9 @@ use mathlib.Core.List.{List, []}
 use Prim.Native.Nat.{ℕ, _*_}
 use native.Mathlib.Omega.{arith}
 use lib.Ieee.{Float}
-use Rattle.geometry.specs.Geometry.{zeroF}
+use Rattle.geometry.specs.Geometry.{zeroF, down}
 use Rattle.geometry.specs.declared.Size.{Size}
+use Rattle.util.specs.Math.{larger}
 use Rattle.util.specs.Maybe.{unwrapOr}
 use Rattle.util.specs.declared.OptionF32.{OptionF32}
 use Rattle.util.specs.declared.OptionF32.the-variants.{None, Some}
@@ -40,16 +41,16 @@ use Rattle.measure.proofs.Afresh.{size-dry}
 
 module _ (ws : List ℕ) (xs : List Float) (q : LayoutInput) (a : RequestedAxis) where
   -- ---- G
-  module _ (found width : Float) (height : OptionF32) where
-    pub height-known : (h : Float) (r : Size) → height ≡ Some h → r ≡ axes width h → Whole ws xs q a found width height r
+  module _ (found width pb : Float) (height : OptionF32) where
+    pub height-known : (h v : Float) (r : Size) → height ≡ Some h → v ≡ larger h pb → r ≡ axes width v → Whole ws xs q a found width pb height r
     unfolding stepG
-    height-known h r e hr t s = hr ∙ ap (λ (z : OptionF32). stepG a width z (sizeT t q found .size)) (sym e)
+    height-known h v r e hv hr t s = hr ∙ ap (axes width) hv ∙ ap (λ (z : OptionF32). stepG a width pb z (sizeT t q found .size)) (sym e)
 
-    pub width-asked : (r : Size) → height ≡ None → a ≡ Horizontal → r ≡ axes width zeroF → Whole ws xs q a found width height r
+    pub width-asked : (r : Size) → height ≡ None → a ≡ Horizontal → r ≡ axes width zeroF → Whole ws xs q a found width pb height r
     unfolding stepG
     width-asked r e ea hr t s = rw (e, ea) hr
 
-    pub whole-asked : (o : LayoutOutput) → height ≡ None → a ≡ Both → Measured ws xs 0 q found o → Whole ws xs q a found width height (o .size)
+    pub whole-asked : (o : LayoutOutput) → height ≡ None → a ≡ Both → Measured ws xs 0 q found o → Whole ws xs q a found width pb height (o .size)
     unfolding stepG
     whole-asked o e ea ho t s = rw (e, ea) (ap (λ (z : LayoutOutput). z .size) (ho t s))
 
@@ -69,15 +70,17 @@ module _ (ws : List ℕ) (xs : List Float) (q : LayoutInput) (a : RequestedAxis)
 
   module _ (s : Style) (z : Sizing) (known : OptionSize) (hs : s ≡ styleAt ws 0 xs 0) (hz : z ≡ stepA s (q .parent)) where
     -- ---- D, F and G
-    pub rest-of : (found w : Float) (r : Size) → known ≡ knownOf s z (q .known) → Found ws xs q (known .width) found → w ≡ unwrapOr (known .width) found → Whole ws xs q a found w (known .height) r → Rest ws xs q a r
+    pub rest-of : (found w pb : Float) (r : Size) → known ≡ knownOf s z (q .known) → Found ws xs q (known .width) found → w ≡ unwrapOr (known .width) found → pb ≡ down (z .both) → Whole ws xs q a found w pb (known .height) r → Rest ws xs q a r
     unfolding restT sizeBelow
-    rest-of found w r hk hf hw hr (node l ks) h =
+    rest-of found w pb r hk hf hw hp hr (node l ks) h =
         let t : Tree Site = node l ks in
         let st : s ≡ rootT t .style = sym (root-of ws xs 0 s hs l ks h) in
         let kk : known ≡ knownOf (rootT t .style) (stepA (rootT t .style) (q .parent)) (q .known) =
         hk ∙ ap (λ (y : Sizing). knownOf s y (q .known)) hz ∙ ap (λ (y : Style). knownOf y (stepA y (q .parent)) (q .known)) st in
-        hr t h ∙ ap (λ (y : Float). stepG a y (known .height) (sizeT t q found .size)) hw ∙ ap (λ (y : Float). sizeBelow a known y (sizeT t q y .size)) (hf t h)
-        ∙ ap (λ (y : OptionSize). sizeBelow a y (foundT t q (y .width)) (sizeT t q (foundT t q (y .width)) .size)) kk
+        let zz : z ≡ stepA (rootT t .style) (q .parent) = hz ∙ ap (λ (y : Style). stepA y (q .parent)) st in
+        hr t h ∙ ap (λ (y : Float). stepG a y pb (known .height) (sizeT t q found .size)) hw ∙ ap (λ (y : Float). stepG a (unwrapOr (known .width) found) y (known .height) (sizeT t q found .size)) hp
+        ∙ ap (λ (y : Float). sizeBelow a z known y (sizeT t q y .size)) (hf t h) ∙ ap (λ (y : Sizing). sizeBelow a y known (foundT t q (known .width)) (sizeT t q (foundT t q (known .width)) .size)) zz
+        ∙ ap (λ (y : OptionSize). sizeBelow a (stepA (rootT t .style) (q .parent)) y (foundT t q (y .width)) (sizeT t q (foundT t q (y .width)) .size)) kk
 
     -- ---- C
     by-style : (o : OptionF32) (t : Tree Site) → SitesT ws xs 0 t → known ≡ stepB z (q .known) → known .width ≡ o → stepC a o (known .height) (restT t q a) ≡ sizeOf t q a

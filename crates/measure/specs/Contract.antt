@@ -65,8 +65,8 @@ Stacked ws xs b f r = (ts : Forest Site) → SitesF ws xs b ts → r ≡ sizeF t
 abbrev pub Found : List ℕ → List Float → LayoutInput → OptionF32 → Float → Type 0
 Found ws xs q width r = (t : Tree Site) → SitesT ws xs 0 t → r ≡ foundT t q width
 
-abbrev pub Whole : List ℕ → List Float → LayoutInput → RequestedAxis → Float → Float → OptionF32 → Size → Type 0
-Whole ws xs q a found width height r = (t : Tree Site) → SitesT ws xs 0 t → r ≡ stepG a width height (sizeT t q found .size)
+abbrev pub Whole : List ℕ → List Float → LayoutInput → RequestedAxis → Float → Float → Float → OptionF32 → Size → Type 0
+Whole ws xs q a found width pb height r = (t : Tree Site) → SitesT ws xs 0 t → r ≡ stepG a width pb height (sizeT t q found .size)
 
 abbrev pub Rest : List ℕ → List Float → LayoutInput → RequestedAxis → Size → Type 0
 Rest ws xs q a r = (t : Tree Site) → SitesT ws xs 0 t → r ≡ restT t q a

@@ -100,8 +100,9 @@ foundT (node l ks) q width = foundBy (l .style) (q .parent) width (widthF ks (sp
 -- D, F, G and the whole layout
 unfoldable pub restT : Tree Site → LayoutInput → RequestedAxis → Size
 restT t q a =
-    let known = knownOf (rootT t .style) (stepA (rootT t .style) (q .parent)) (q .known) in
-    sizeBelow a known (foundT t q (known .width)) (sizeT t q (foundT t q (known .width)) .size)
+    let z = stepA (rootT t .style) (q .parent) in
+    let known = knownOf (rootT t .style) z (q .known) in
+    sizeBelow a z known (foundT t q (known .width)) (sizeT t q (foundT t q (known .width)) .size)
 
 -- C first
 unfoldable pub drySize : Tree Site → LayoutInput → RequestedAxis → Size

@@ -186,13 +186,14 @@ fn size_after_width(
     axis: RequestedAxis,
     found: f32,
     width: f32,
+    pb: f32,
     height: OptionF32,
 ) -> Size
     requires { ⌜ IsTree (now words) (now numbers) 0 32 ⌝ }
-    ensures { λ r. ⌜ Whole (now (words .entry)) (now (numbers .entry)) q axis found width height r ⌝ }
+    ensures { λ r. ⌜ Whole (now (words .entry)) (now (numbers .entry)) q axis found width pb height r ⌝ }
 {
     if let OptionF32::Some(h) = height {
-        return axes(width, h);
+        return axes(width, util::f32_max(h, pb));
     }
     match axis {
         RequestedAxis::Horizontal => axes(width, 0.0),
@@ -213,11 +214,13 @@ fn size_below(words: &[u32], numbers: &[f32], q: LayoutInput, axis: RequestedAxi
     let asked = q.known;
     let z = sizing::sizing_of(s, parent);
     let known = sizing::known_dimensions(s, z, asked);
+    let both = z.both;
     let width = known.width;
     let height = known.height;
     let found = found_width(words, numbers, q, width);
     let w = width.unwrap_or(found);
-    size_after_width(words, numbers, q, axis, found, w, height)
+    let pb = both.vertical_axis_sum();
+    size_after_width(words, numbers, q, axis, found, w, pb, height)
 }
 
 // Step C, with the width known.

@@ -7,3 +7,4 @@ pub mod Sizes
 pub mod C
 pub mod Records
 pub mod RecordsLeft
+pub mod AskOnce

@@ -104,7 +104,8 @@ impl Reading<'_> {
                 self.content_width(question.available, &own, inset, &items)
             }
         };
-        if let Some(answer) = answered_by_width(question.ask, width, known.height) {
+        let height = known.height.map(|height| self.raised(height, &own));
+        if let Some(answer) = answered_by_width(question.ask, width, height) {
             return answer;
         }
         // H finds the numbers of A again: only a probe has no parent width, and it has its answer.
@@ -140,6 +141,15 @@ impl Reading<'_> {
             top: if own_start { stack.top } else { Set::of(margin(TOP)) },
             bottom: if own_end && !held_by_min { stack.strut } else { Set::of(margin(BOTTOM)) },
             through: height == 0.0 && stack.all_through && self.lets_through(node, &own),
+        }
+    }
+
+    /// Step G: a known height is not below padding and border.
+    fn raised(&self, height: f32, own: &Numbers) -> f32 {
+        if self.on(Rule::RatioHeightAsIs) {
+            height
+        } else {
+            larger(height, own.least_height)
         }
     }
 

@@ -6,11 +6,16 @@ use Rattle.measure.proofs.size_after_width.Tie as tie
 enum-known-height : tie.Need-enum-known-height
 enum-known-height c = search needs
 
+f32-max-requires : tie.Need-f32-max-requires
+f32-max-requires c κs = search needs
+
 axes-requires : tie.Need-axes-requires
 axes-requires c κs = search needs
 
 returns : tie.Need-returns
-returns c = height-known (c .before .before .before .before .before .before .args .words .now) (c .before .before .before .before .before .before .args .numbers .now) (c .before .before .before .before .before .before .args .q) (c .before .before .before .before .before .before .args .axis) (c .before .before .before .before .before .before .args .found) (c .before .before .before .before .before .before .args .width) (c .before .before .before .before .before .before .args .height) _ _ (c .before .before .height .given .1) (c .axes .ensures)
+returns c =
+    let at-start = c .before .before .before .before .before .before .before in
+    height-known (at-start .args .words .now) (at-start .args .numbers .now) (at-start .args .q) (at-start .args .axis) (at-start .args .found) (at-start .args .width) (at-start .args .pb) (at-start .args .height) _ _ _ (c .before .before .before .height .given .1) (c .before .f32-max .ensures) (c .axes .ensures)
 
 enum-told : tie.Need-enum-told
 enum-told c = search needs
@@ -28,16 +33,17 @@ measured-requires : tie.Need-measured-requires
 measured-requires c κs = search needs
 
 returns-2 : tie.Need-returns-2
-returns-2 c = width-asked (c .before .before .before .before .before .before .before .args .words .now) (c .before .before .before .before .before .before .before .args .numbers .now) (c .before .before .before .before .before .before .before .args .q) (c .before .before .before .before .before .before .before .args .axis) (c .before .before .before .before .before .before .before .args .found) (c .before .before .before .before .before .before .before .args .width) (c .before .before .before .before .before .before .before .args .height) _ (c .before .before .before .enum-told .given .1) (c .before .enum-told2 .given .1) (c .axes2 .ensures)
+returns-2 c = width-asked (c .before .before .before .before .before .before .before .args .words .now) (c .before .before .before .before .before .before .before .args .numbers .now) (c .before .before .before .before .before .before .before .args .q) (c .before .before .before .before .before .before .before .args .axis) (c .before .before .before .before .before .before .before .args .found) (c .before .before .before .before .before .before .before .args .width) (c .before .before .before .before .before .before .before .args .pb) (c .before .before .before .before .before .before .before .args .height) _ (c .before .before .before .enum-told .given .1) (c .before .enum-told2 .given .1) (c .axes2 .ensures)
 
 returns-3 : tie.Need-returns-3
-returns-3 c = whole-asked (c .before .before .before .before .before .before .before .before .args .words .now) (c .before .before .before .before .before .before .before .before .args .numbers .now) (c .before .before .before .before .before .before .before .before .args .q) (c .before .before .before .before .before .before .before .before .args .axis) (c .before .before .before .before .before .before .before .before .args .found) (c .before .before .before .before .before .before .before .before .args .width) (c .before .before .before .before .before .before .before .before .args .height) _ (c .before .before .before .before .enum-told .given .1) (c .before .before .enum-told3 .given .1) (c .before .measured .ensures)
+returns-3 c = whole-asked (c .before .before .before .before .before .before .before .before .args .words .now) (c .before .before .before .before .before .before .before .before .args .numbers .now) (c .before .before .before .before .before .before .before .before .args .q) (c .before .before .before .before .before .before .before .before .args .axis) (c .before .before .before .before .before .before .before .before .args .found) (c .before .before .before .before .before .before .before .before .args .width) (c .before .before .before .before .before .before .before .before .args .pb) (c .before .before .before .before .before .before .before .before .args .height) _ (c .before .before .before .before .enum-told .given .1) (c .before .before .enum-told3 .given .1) (c .before .measured .ensures)
 
 pub size-after-width-spec : {M : Type 1} → statement M
 size-after-width-spec =
     tie.close
     (tie.spec
     enum-known-height
+    f32-max-requires
     axes-requires
     returns
     enum-told

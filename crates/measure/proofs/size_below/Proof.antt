@@ -18,11 +18,17 @@ found-width-requires c κs = search needs
 unwrap-or-requires : tie.Need-unwrap-or-requires
 unwrap-or-requires c κs = search needs
 
+vertical-axis-sum-requires : tie.Need-vertical-axis-sum-requires
+vertical-axis-sum-requires c κs = search needs
+
 size-after-width-requires : tie.Need-size-after-width-requires
 size-after-width-requires c κs = search needs
 
 returns : tie.Need-returns
-returns c = rest-of (c .before .before .before .before .before .before .before .before .before .args .words .now) (c .before .before .before .before .before .before .before .before .before .args .numbers .now) (c .before .before .before .before .before .before .before .before .before .args .q) (c .before .before .before .before .before .before .before .before .before .args .axis) _ _ _ (c .before .before .before .before .before .before .style-at .ensures) (c .before .before .before .before .sizing-of .ensures) _ _ _ (c .before .before .before .known-dimensions .ensures) (c .before .before .found-width .ensures) (c .before .unwrap-or .ensures) (c .size-after-width .ensures)
+returns c =
+    let at-known = c .before .before .before .before .before in
+    let at-start = at-known .before .before .before .before .before .before in
+    rest-of (at-start .args .words .now) (at-start .args .numbers .now) (at-start .args .q) (at-start .args .axis) _ _ _ (at-known .before .before .before .style-at .ensures) (at-known .before .sizing-of .ensures) _ _ _ _ (at-known .known-dimensions .ensures) (c .before .before .before .found-width .ensures) (c .before .before .unwrap-or .ensures) (c .before .vertical-axis-sum .ensures) (c .size-after-width .ensures)
 
 pub size-below-spec : {M : Type 1} → statement M
 size-below-spec =
@@ -33,5 +39,6 @@ size-below-spec =
     known-dimensions-requires
     found-width-requires
     unwrap-or-requires
+    vertical-axis-sum-requires
     size-after-width-requires
     returns)
