@@ -31,6 +31,7 @@ rules! {
     12 ChildrenAskedSizes "children-asked-sizes"
     13 StyledHeightBasis "styled-height-basis"
     14 RatioHeightAsIs "ratio-height-as-is"
+    15 NumbersOnce "numbers-once"
 }
 
 impl Rule {

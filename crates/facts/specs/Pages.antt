@@ -133,7 +133,7 @@ px60 = 0x4270_0000
 abbrev pub px100 : ℕ
 px100 = 0x42c8_0000
 
-abbrev px200 : ℕ
+abbrev pub px200 : ℕ
 px200 = 0x4348_0000
 
 -- below zero

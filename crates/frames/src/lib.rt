@@ -176,7 +176,6 @@ fn framed_by(s: Style, q: LayoutInput, z: Sizing, known: OptionSize, width: f32)
         floor: both.vertical_axis_sum(),
         minHeight: lo,
         maxHeight: hi,
-        basis: sizing::content_basis(known, inset),
         heightBasis: basis_below(q, known, inset),
         ownStart: edge_adjoins(s, q.collapseStart, padding.top, border.top),
         ownEnd: own_end(s, q.collapseEnd, padding.bottom, border.bottom, sh),

@@ -27,3 +27,4 @@ pub mod Examples
 pub mod Cheats
 pub mod StepH
 pub mod AskOnce
+pub mod Shrunk

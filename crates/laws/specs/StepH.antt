@@ -15,7 +15,7 @@ use Rattle.style.specs.declared.Flow.{Flow}
 use Rattle.style.specs.declared.Flow.the-variants.{Gone, Out, In}
 use Rattle.style.specs.declared.Style.{Style}
 use Rattle.tree.specs.Tree.{Tree, Forest, node, none, more, mapT, rootT}
-use Rattle.steps.specs.Sizing.{sizingOf, sizedBy, knownOf, insets, contentBasis}
+use Rattle.steps.specs.Sizing.{sizingOf, sizedBy, knownOf, insets}
 use Rattle.steps.specs.HeightBasis.{basisBelow}
 use Rattle.steps.specs.Through.{hollowBox}
 use Rattle.steps.specs.Edges.{adjoins, ownEndOf, stepI, frameOf}
@@ -46,7 +46,6 @@ stepIAgain s q z known width padding border =
       floor = down (plus padding border);
       minHeight = z .min .height;
       maxHeight = z .max .height;
-      basis = contentBasis known (insets s (z .both));
       heightBasis = basisBelow q known (insets s (z .both));
       ownStart = adjoins s (q .collapseStart) (padding .top) (border .top);
       ownEnd = ownEndOf s (q .collapseEnd) (padding .bottom) (border .bottom) (z .size .height);

@@ -50,7 +50,6 @@ noBasis f =
       floor = f .floor;
       minHeight = f .minHeight;
       maxHeight = f .maxHeight;
-      basis = f .basis;
       heightBasis = None;
       ownStart = f .ownStart;
       ownEnd = f .ownEnd;
@@ -155,7 +154,7 @@ frame-same s q found n = rw (whole-sizing s (q .parent) (q .basis) None (n .size
 item-same : (f : Frame) (s : Style) → NoHeightParts s → itemOf f s ≡ itemOf (noBasis f) s
 unfolding itemOf innerWidth
 item-same f s n =
-    rw (whole-sizing s (f .basis) (f .heightBasis) None (n .sizes), whole-offset (s .position) (s .inset) (f .rtl) (Some (innerWidth f)) (f .heightBasis) None (n .top) (n .bottom))
+    rw (whole-sizing s (Some (innerWidth f)) (f .heightBasis) None (n .sizes), whole-offset (s .position) (s .inset) (f .rtl) (Some (innerWidth f)) (f .heightBasis) None (n .top) (n .bottom))
 
 asked-same : (f : Frame) (s : Style) (i : BlockItem) → unbased (childInput f s i) ≡ childInput (noBasis f) s i
 unfolding childInput askedWidth innerWidth

@@ -22,7 +22,7 @@ use Rattle.tree.proofs.Laws.{mapT-node, mapF-none, mapF-more, map-mapT, rootT-m
 use Rattle.steps.specs.Row.{Row, ProbeWords, bare, hiddenRow, asideRow, laidRow, putAt, lowered, isLaid}
 use Rattle.steps.specs.Page.{Site, Cell, Node, blank}
 use Rattle.steps.specs.Question.{rootInput}
-use Rattle.steps.specs.Sizing.{sizingOf, stepA, stepB, stepD, filled, knownAxis, knownOf, gutter, insets, contentBasis}
+use Rattle.steps.specs.Sizing.{sizingOf, stepA, stepB, stepD, filled, knownAxis, knownOf, gutter, insets}
 use Rattle.steps.specs.Edges.{frameOf, stepI}
 use Rattle.steps.specs.Stack.{innerWidth, startOf, offsetX, relativeOffset, offsetBy, itemOf, askedWidth, childInput, questionTo, freeOf, placeX, placeOf, stepped, lineOf, edgesOf, pastAside, pastHidden}
 use Rattle.steps.specs.Through.{outputOf, finished, leafOutput}
@@ -47,16 +47,14 @@ use Rattle.percent.specs.Probes.{autoSite, autoCell, autoNode, onPassed,
 pub record SameFrame (f g : Frame) : Type 0 where
   pub width : f .width ≡ g .width
   pub inset : f .inset ≡ g .inset
-  pub basis : f .basis ≡ g .basis
   pub rtl : f .rtl ≡ g .rtl
 
-frame-by : (s : Style) (q p : LayoutInput) (z y : Sizing) (k j : OptionSize) (v w : Float) → z .both ≡ y .both → k .width ≡ j .width → v ≡ w
+frame-by : (s : Style) (q p : LayoutInput) (z y : Sizing) (k j : OptionSize) (v w : Float) → z .both ≡ y .both → v ≡ w
     → SameFrame (stepI s q z k v) (stepI (autoHeights s) p y j w)
-unfolding stepI insets gutter contentBasis
-frame-by s q p z y k j v w a b d = record {
+unfolding stepI insets gutter
+frame-by s q p z y k j v w a d = record {
   width = d;
   inset = rw a;
-  basis = rw (a, b);
   rtl = refl;
 }
 
@@ -72,7 +70,7 @@ frame-child s q p w found a d e c =
     let y = sizingOf (autoHeights s) (p .parent) (p .basis) in
     let h : SameAcross z y = rw (c) (sizing-across s (p .parent) (q .basis) (p .basis) a) in
     let k : knownOf s z (q .known) .width ≡ knownOf (autoHeights s) y (p .known) .width = known-asked s z (q .known) w d ∙ ap (λ b. Some (larger w (across b))) (h .both) ∙ sym (known-asked (autoHeights s) y (p .known) w e) in
-    frame-by s q p z y _ _ _ _ (h .both) k (ap (λ (o : OptionF32). unwrapOr o found) k)
+    frame-by s q p z y _ _ _ _ (h .both) (ap (λ (o : OptionF32). unwrapOr o found) k)
 
 -- at the root no height has a basis
 no-basis : (s : Style) (q : LayoutInput) → q .basis ≡ None → sizingOf s (q .parent) (q .basis) ≡ stepA s (q .parent)
@@ -85,7 +83,7 @@ frame-root s q found e =
     let z = no-basis s q e in
     let y = no-basis (autoHeights s) q e in
     let k = sym (known-auto s (q .parent) (q .known)) in
-    rw (z, y) (frame-by s q q (stepA s (q .parent)) (stepA (autoHeights s) (q .parent)) _ _ _ _ (ap (λ (x : Sizing). x .both) (sym (auto-A s (q .parent)))) (ap (λ (o : OptionSize). o .width) k) (ap (λ (o : OptionSize). unwrapOr (o .width) found) k))
+    rw (z, y) (frame-by s q q (stepA s (q .parent)) (stepA (autoHeights s) (q .parent)) _ _ _ _ (ap (λ (x : Sizing). x .both) (sym (auto-A s (q .parent)))) (ap (λ (o : OptionSize). unwrapOr (o .width) found) k))
 
 -- ---- what is asked of a child, and where it stands
 inner-same : (f g : Frame) → SameFrame f g → innerWidth f ≡ innerWidth g
@@ -108,7 +106,7 @@ offset-same Absolute i r b h k = refl
 item-same : (f g : Frame) (s : Style) → SameFrame f g → RatioAlone s → SameItem (itemOf f s) (itemOf g (autoHeights s))
 unfolding itemOf
 item-same f g s h a = record {
-  sizing = rw (h .basis) (sizing-across s (g .basis) (f .heightBasis) (g .heightBasis) a);
+  sizing = rw (inner-same f g h) (sizing-across s (Some (innerWidth g)) (f .heightBasis) (g .heightBasis) a);
   margin = rw (inner-same f g h);
   left = refl;
   right = refl;

@@ -1,6 +1,6 @@
 // Steps A to E of one box: its sizes and insets (the crate's compute_block_layout and the start of compute_inner).
 ghost use mathlib.Core.Path.{_≡_};
-ghost use Rattle.steps.specs.Sizing.{boxSize, sizingOf, stepA, decided, knownAxis, stepB, filled, stepD, knownOf, barOf, gutter, insets, contentBasis};
+ghost use Rattle.steps.specs.Sizing.{boxSize, sizingOf, stepA, decided, knownAxis, stepB, filled, stepD, knownOf, barOf, gutter, insets};
 use geometry::Rect;
 use length::LengthSize;
 use steps::Sizing;
@@ -181,11 +181,4 @@ pub fn content_box_inset(s: Style, both: Rect) -> Rect
     ensures { λ r. ⌜ r ≡ insets s both ⌝ }
 {
     both.add(scrollbar_gutter(s))
-}
-
-pub fn content_basis(known: OptionSize, inset: Rect) -> OptionF32
-    ensures { λ r. ⌜ r ≡ contentBasis known inset ⌝ }
-{
-    let w = known.width;
-    w.maybe_sub(inset.horizontal_axis_sum())
 }

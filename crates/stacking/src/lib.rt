@@ -93,7 +93,6 @@ fn offset_by(p: Position, i: LengthRect, rtl: bool, basis: OptionF32, height: Op
 pub fn item_of(f: Frame, s: Style) -> BlockItem
     ensures { λ r. ⌜ r ≡ itemOf f s ⌝ }
 {
-    let basis = f.basis;
     let height = f.heightBasis;
     let margin = s.margin;
     let left = margin.left;
@@ -102,7 +101,7 @@ pub fn item_of(f: Frame, s: Style) -> BlockItem
     let inset = s.inset;
     let inner = inner_width(f);
     BlockItem {
-        sizing: sizing::sizing_in(s, basis, height),
+        sizing: sizing::sizing_in(s, OptionF32::Some(inner), height),
         margin: margin.resolve_sides(OptionF32::Some(inner)),
         left: length::is_auto(left),
         right: length::is_auto(right),

@@ -14,7 +14,7 @@ use Rattle.alignment.specs.Align.{alignShift}
 use Rattle.tree.specs.Tree.{countT, flatT, mapT, rootT, onRoot}
 use Rattle.tree.specs.Table.{from, parseF, parseT}
 use Rattle.steps.specs.HeightBasis.{definiteOf, basisBelow}
-use Rattle.steps.specs.Sizing.{boxSize, sizedBy, sizingOf, stepA, decided, knownAxis, stepB, filled, stepD, knownOf, barOf, gutter, insets, contentBasis}
+use Rattle.steps.specs.Sizing.{boxSize, sizedBy, sizingOf, stepA, decided, knownAxis, stepB, filled, stepD, knownOf, barOf, gutter, insets}
 use Rattle.style.specs.Flow.{positioned, flowBy, flowOf, isLeaf, isIn}
 use Rattle.steps.specs.Width.{sideMargins, outerOf, outerWidth, wantBy, wantSized, wantIn, wantOf, contentWidth, leafWidth}
 use Rattle.steps.specs.Context.{clips, isNormal, newContext, plainBlock}
@@ -35,7 +35,7 @@ use Rattle.steps.specs.SizeQuestion.{axes, widthKnown, stepC, stepG, siz
 
 -- the steps, both passes, kept nodes
 unfoldable pub steps : ℕ
-unfolding sumAxes plus sameF tooLarge larger smaller capped floored clamped unwrapOr orZero orElse isSome addOpt subOpt clampOpt floorOpt ratioWidth ratioHeight ratioFills addSize scaled resolved resolvedOrZero isAuto resolvedRect resolvedSize availableLess definite kindOf positionOf overflowOf overflowXY alignOf unitOf lengthOf ratioOf wordAt numberAt lengthAt sizeAt rectAt measureAt styleAt noMargins setOf joined joinedWith sumOf alignShift countT flatT mapT rootT onRoot from parseF parseT boxSize sizedBy sizingOf stepA definiteOf basisBelow decided knownAxis stepB filled stepD knownOf barOf gutter insets contentBasis positioned flowBy flowOf isLeaf sideMargins outerOf outerWidth wantBy wantSized wantIn wantOf contentWidth leafWidth clips isNormal newContext isIn plainBlock adjoins openBox hollowBox ownEndOf stepI frameOf innerWidth startOf negOpt offsetX relativeOffset offsetBy itemOf askedWidth askedHeight childInput questionTo topMargins bottomMargins atTop gapOf freeOf shareOf placeX placeY placeOf pastThrough pastBox stepped lineOf edgesOf pastAside pastHidden extraOf stepK stepL heldOpen stillOwnEnd stepM stepN passedOut outputOf finished leafOutput isLaid isOut availableKind probeCode noProbe probeNote probeOf withCode noted bare noRow hiddenRow asideRow laidRow outputIn putAt lowered named anyT siteAt cellAt pageOf cellsOf blank cleared staying probedAnew edits finalStands editedNode kept keptRow laidBits belowRow zerosT zerosF fixT keep lowerF alignF leafLaid blockLaid skip aside place layT askT relaid fresh rowsOut marksOut ofBits toBits add sub mul div lt le eq neg probeStands answered probeKnown spaceIn foundWidth asked blockProbe stay widen probeT askP passBy widthPass
+unfolding sumAxes plus sameF tooLarge larger smaller capped floored clamped unwrapOr orZero orElse isSome addOpt subOpt clampOpt floorOpt ratioWidth ratioHeight ratioFills addSize scaled resolved resolvedOrZero isAuto resolvedRect resolvedSize availableLess definite kindOf positionOf overflowOf overflowXY alignOf unitOf lengthOf ratioOf wordAt numberAt lengthAt sizeAt rectAt measureAt styleAt noMargins setOf joined joinedWith sumOf alignShift countT flatT mapT rootT onRoot from parseF parseT boxSize sizedBy sizingOf stepA definiteOf basisBelow decided knownAxis stepB filled stepD knownOf barOf gutter insets positioned flowBy flowOf isLeaf sideMargins outerOf outerWidth wantBy wantSized wantIn wantOf contentWidth leafWidth clips isNormal newContext isIn plainBlock adjoins openBox hollowBox ownEndOf stepI frameOf innerWidth startOf negOpt offsetX relativeOffset offsetBy itemOf askedWidth askedHeight childInput questionTo topMargins bottomMargins atTop gapOf freeOf shareOf placeX placeY placeOf pastThrough pastBox stepped lineOf edgesOf pastAside pastHidden extraOf stepK stepL heldOpen stillOwnEnd stepM stepN passedOut outputOf finished leafOutput isLaid isOut availableKind probeCode noProbe probeNote probeOf withCode noted bare noRow hiddenRow asideRow laidRow outputIn putAt lowered named anyT siteAt cellAt pageOf cellsOf blank cleared staying probedAnew edits finalStands editedNode kept keptRow laidBits belowRow zerosT zerosF fixT keep lowerF alignF leafLaid blockLaid skip aside place layT askT relaid fresh rowsOut marksOut ofBits toBits add sub mul div lt le eq neg probeStands answered probeKnown spaceIn foundWidth asked blockProbe stay widen probeT askP passBy widthPass
 steps = 0
 
 -- the tests, the candidates and the results of the public calls besides

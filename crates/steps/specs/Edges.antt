@@ -11,7 +11,7 @@ use Rattle.util.specs.Maybe.{isSome, unwrapOr}
 use Rattle.util.specs.declared.OptionF32.{OptionF32}
 use Rattle.util.specs.declared.OptionSize.{OptionSize}
 use Rattle.style.specs.declared.Style.{Style}
-use Rattle.steps.specs.Sizing.{sizingOf, knownOf, insets, contentBasis}
+use Rattle.steps.specs.Sizing.{sizingOf, knownOf, insets}
 use Rattle.steps.specs.HeightBasis.{basisBelow}
 use Rattle.steps.specs.Context.{plainBlock}
 use Rattle.steps.specs.Through.{hollowBox}
@@ -37,7 +37,6 @@ stepI s q z known width =
       floor = down (z .both);
       minHeight = z .min .height;
       maxHeight = z .max .height;
-      basis = contentBasis known (insets s (z .both));
       heightBasis = basisBelow q known (insets s (z .both));
       ownStart = adjoins s (q .collapseStart) (z .padding .top) (z .border .top);
       ownEnd = ownEndOf s (q .collapseEnd) (z .padding .bottom) (z .border .bottom) (z .size .height);

@@ -3,13 +3,14 @@
 --   B  asked, else min where max <= min, else clamped; floored     decided, knownAxis; whole: stepB
 --   D  ratio fills a missing axis, clamped                         filled; whole: stepD
 --   A, B and D of the known sizes                                  knownOf
---   E  insets; the width that children's numbers resolve against   barOf, gutter, insets; contentBasis
+--   E  insets                                                      barOf, gutter, insets
+--   E  children's numbers: without basis in F (stepA, Width), against inner width in J (itemOf, Stack)
 use mathlib.Core.Bool.{Bool, true, false, cond}
 use lib.Ieee.{Float, le}
 use Rattle.geometry.specs.Geometry.{zeroF, across, down, sumAxes, plus}
 use Rattle.geometry.specs.declared.Rect.{Rect}
 use Rattle.geometry.specs.declared.Size.{Size}
-use Rattle.util.specs.Maybe.{orElse, subOpt, clampOpt, floorOpt, ratioFills, addSize}
+use Rattle.util.specs.Maybe.{orElse, clampOpt, floorOpt, ratioFills, addSize}
 use Rattle.util.specs.declared.OptionF32.{OptionF32}
 use Rattle.util.specs.declared.OptionF32.the-variants.{None, Some}
 use Rattle.util.specs.declared.OptionSize.{OptionSize}
@@ -102,7 +103,3 @@ gutter s =
 -- E: insets are padding+border plus gutter
 unfoldable pub insets : Style → Rect → Rect
 insets s both = plus both (gutter s)
-
--- E: child numbers resolve against known width less insets, else no basis
-unfoldable pub contentBasis : OptionSize → Rect → OptionF32
-contentBasis known inset = subOpt (known .width) (across inset)

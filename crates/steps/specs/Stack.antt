@@ -63,11 +63,11 @@ offsetBy Static i rtl basis height = record { x = zeroF; y = zeroF }
 offsetBy Relative i rtl basis height = relativeOffset i rtl basis height
 offsetBy Absolute i rtl basis height = record { x = zeroF; y = zeroF }
 
--- E's numbers; margins and side offsets against inner width, an auto margin counts 0 at first
+-- E's numbers again, margins and side offsets, all against inner width; an auto margin counts 0 at first
 unfoldable pub itemOf : Frame → Style → BlockItem
 itemOf f s =
     record {
-      sizing = sizingOf s (f .basis) (f .heightBasis);
+      sizing = sizingOf s (Some (innerWidth f)) (f .heightBasis);
       margin = resolvedRect (s .margin) (Some (innerWidth f));
       left = isAuto (s .margin .left);
       right = isAuto (s .margin .right);

@@ -73,7 +73,6 @@ pub struct Frame {
     pub floor: f32,
     pub minHeight: OptionF32,
     pub maxHeight: OptionF32,
-    pub basis: OptionF32,
     pub heightBasis: OptionF32,
     pub ownStart: bool,
     pub ownEnd: bool,

@@ -112,8 +112,9 @@ impl Reading<'_> {
         // I
         let own_start = question.start && self.adjoins(node, &own, TOP);
         let own_end = question.end && self.adjoins(node, &own, BOTTOM) && own.size.height.is_none();
-        // J, K
-        let items = self.items(node, basis);
+        // J, K. The children's numbers again, by the width that is known now.
+        let again = if self.on(Rule::NumbersOnce) { basis.width } else { Some(width - across(inset)) };
+        let items = self.items(node, Pair { width: again, ..basis });
         let frame = Frame {
             ask: question.ask,
             width,

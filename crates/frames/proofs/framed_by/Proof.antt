@@ -9,9 +9,6 @@ content-box-inset-requires c κs = search needs
 vertical-axis-sum-requires : tie.Need-vertical-axis-sum-requires
 vertical-axis-sum-requires c κs = search needs
 
-content-basis-requires : tie.Need-content-basis-requires
-content-basis-requires c κs = search needs
-
 basis-below-requires : tie.Need-basis-below-requires
 basis-below-requires c κs = search needs
 
@@ -28,7 +25,7 @@ returns : tie.Need-returns
 unfolding stepI
 returns c =
     let at-basis = c .before .before .before in
-    rw (c .is-hollow .ensures, c .before .own-end .ensures, c .before .before .edge-adjoins .ensures, at-basis .basis-below .ensures, at-basis .before .content-basis .ensures, at-basis .before .before .vertical-axis-sum .ensures, at-basis .before .before .before .content-box-inset .ensures)
+    rw (c .is-hollow .ensures, c .before .own-end .ensures, c .before .before .edge-adjoins .ensures, at-basis .basis-below .ensures, at-basis .before .vertical-axis-sum .ensures, at-basis .before .before .content-box-inset .ensures)
 
 pub framed-by-spec : {M : Type 1} → statement M
 framed-by-spec =
@@ -36,7 +33,6 @@ framed-by-spec =
     (tie.spec
     content-box-inset-requires
     vertical-axis-sum-requires
-    content-basis-requires
     basis-below-requires
     edge-adjoins-requires
     own-end-requires
