@@ -1,7 +1,10 @@
 /*
  * Mearrasot places boxes on a page. The caller lends tables of plain numbers
  * and memory for the result; nothing else is read or written, and nothing is
- * kept between calls. docs/EMBEDDING.md says what a caller owes.
+ * kept between calls. docs/EMBEDDING.md says what a caller owes. This file has
+ * the tables, the question, the answers and the calls; mearrasot_tables.h, which
+ * it includes, has helpers over the tables, and mearrasot_page.h a builder that
+ * cannot get sizes, units and the list of edits wrong.
  *
  * '01' is the document the product is built from.
  */
@@ -14,6 +17,15 @@
 #ifdef __cplusplus
 extern "C" {
 #endif
+
+/*
+ * The version of these declarations. The first number rises if a program that
+ * kept to them must change, the second if something is new, the third else. It
+ * is not in the archive: take header and archive from the same commit.
+ */
+#define MEARRASOT_VERSION_MAJOR 1
+#define MEARRASOT_VERSION_MINOR 1
+#define MEARRASOT_VERSION_PATCH 0
 
 /* ---- Limits ---- */
 
@@ -56,12 +68,14 @@ extern "C" {
 #define MEARRASOT_RELATIVE (1u << 4)
 #define MEARRASOT_OUT_OF_FLOW (2u << 4)
 /* Overflow across, bits 6-7, and down, bits 8-9. */
-#define MEARRASOT_VISIBLE 0u
-#define MEARRASOT_CLIP 1u
-#define MEARRASOT_HIDE 2u
-#define MEARRASOT_SCROLL 3u
-#define MEARRASOT_OVERFLOW_X(v) ((uint32_t)(v) << 6)
-#define MEARRASOT_OVERFLOW_Y(v) ((uint32_t)(v) << 8)
+#define MEARRASOT_X_VISIBLE (0u << 6)
+#define MEARRASOT_X_CLIP (1u << 6)
+#define MEARRASOT_X_HIDDEN (2u << 6)
+#define MEARRASOT_X_SCROLL (3u << 6)
+#define MEARRASOT_Y_VISIBLE (0u << 8)
+#define MEARRASOT_Y_CLIP (1u << 8)
+#define MEARRASOT_Y_HIDDEN (2u << 8)
+#define MEARRASOT_Y_SCROLL (3u << 8)
 /* Where the content stands in a taller box, bits 10-11. */
 #define MEARRASOT_ALIGN_NORMAL (0u << 10)
 #define MEARRASOT_ALIGN_START (1u << 10)
@@ -154,9 +168,14 @@ enum mearrasot_row {
  * below a hidden one or another such node, in preorder. It says where the node
  * would stand, measured from the root's corner.
  *   pairs, 2 for each record: the node's number, and its order
- *   triples, 3 for each record: start, end, line
+ *   triples, 3 for each record: start, end, line (in its row: start, line, end)
  * Start and end are the left and right inner edge of its parent, line the y.
  */
+#define MEARRASOT_P_NODE 0
+#define MEARRASOT_P_ORDER 1
+#define MEARRASOT_T_START 0
+#define MEARRASOT_T_END 1
+#define MEARRASOT_T_LINE 2
 
 /* ---- The question ---- */
 
@@ -205,9 +224,13 @@ static inline uint32_t mearrasot_place(uint64_t answer) {
 /* ---- The calls ---- */
 
 /*
- * Every slice is a pointer and its count of entries, not of bytes. A pointer is
- * never null, also where the count is 0. Memory that a call writes overlaps
- * nothing else that it is lent.
+ * Every slice is a pointer and its count of entries, not of bytes; a count has
+ * 64 bits on every machine, so that one declaration fits them all. Memory that
+ * a call writes overlaps nothing else that it is lent.
+ *
+ * A pointer is never null, also where the count is 0: the proofs are about
+ * references, and the compiler may use that these are not null. The calls of
+ * mearrasot_tables.h and mearrasot_page.h take null for a slice of no entries.
  *
  * Of a layout and a relayout, 1 to 7 leave all lent memory as it was; 8 leaves
  * rows and marks zero, and the candidates as they were. Accepted, every row and
@@ -215,12 +238,12 @@ static inline uint32_t mearrasot_place(uint64_t answer) {
  */
 
 /* A layout from scratch. What rows and marks held before does not matter. */
-uint64_t mearrasot_layout(const uint32_t *words, size_t words_len,
-                          const float *numbers, size_t numbers_len,
-                          float *rows, size_t rows_len,
-                          uint32_t *marks, size_t marks_len,
-                          uint32_t *pairs, size_t pairs_len,
-                          float *triples, size_t triples_len,
+uint64_t mearrasot_layout(const uint32_t *words, uint64_t words_len,
+                          const float *numbers, uint64_t numbers_len,
+                          float *rows, uint64_t rows_len,
+                          uint32_t *marks, uint64_t marks_len,
+                          uint32_t *pairs, uint64_t pairs_len,
+                          float *triples, uint64_t triples_len,
                           float known_width, float known_height,
                           float parent_width, float available,
                           uint32_t how);
@@ -230,13 +253,13 @@ uint64_t mearrasot_layout(const uint32_t *words, size_t words_len,
  * accepted call left. edits names each node whose words or numbers changed
  * since then, in any order. The tree has the same shape as before.
  */
-uint64_t mearrasot_relayout(const uint32_t *words, size_t words_len,
-                            const float *numbers, size_t numbers_len,
-                            float *rows, size_t rows_len,
-                            uint32_t *marks, size_t marks_len,
-                            uint32_t *pairs, size_t pairs_len,
-                            float *triples, size_t triples_len,
-                            const uint32_t *edits, size_t edits_len,
+uint64_t mearrasot_relayout(const uint32_t *words, uint64_t words_len,
+                            const float *numbers, uint64_t numbers_len,
+                            float *rows, uint64_t rows_len,
+                            uint32_t *marks, uint64_t marks_len,
+                            uint32_t *pairs, uint64_t pairs_len,
+                            float *triples, uint64_t triples_len,
+                            const uint32_t *edits, uint64_t edits_len,
                             float known_width, float known_height,
                             float parent_width, float available,
                             uint32_t how);
@@ -246,8 +269,8 @@ uint64_t mearrasot_relayout(const uint32_t *words, size_t words_len,
  * 0 if refused. It is the size that a layout of the same question gives the
  * root. With MEARRASOT_WIDTH_ONLY the height is 0 unless it is known.
  */
-uint64_t mearrasot_size(const uint32_t *words, size_t words_len,
-                        const float *numbers, size_t numbers_len,
+uint64_t mearrasot_size(const uint32_t *words, uint64_t words_len,
+                        const float *numbers, uint64_t numbers_len,
                         float size[2],
                         float known_width, float known_height,
                         float parent_width, float available,
@@ -260,13 +283,13 @@ uint64_t mearrasot_size(const uint32_t *words, size_t words_len,
  * entry for each. It is made again after each layout or relayout. A refusal (1,
  * 2, 3, 7, 9) leaves the three as they were.
  */
-uint64_t mearrasot_index(const uint32_t *words, size_t words_len,
-                         const float *rows, size_t rows_len,
-                         const uint32_t *marks, size_t marks_len,
-                         const uint32_t *list, size_t list_len,
-                         float *tops, size_t tops_len,
-                         float *bottoms, size_t bottoms_len,
-                         float *running, size_t running_len);
+uint64_t mearrasot_index(const uint32_t *words, uint64_t words_len,
+                         const float *rows, uint64_t rows_len,
+                         const uint32_t *marks, uint64_t marks_len,
+                         const uint32_t *list, uint64_t list_len,
+                         float *tops, uint64_t tops_len,
+                         float *bottoms, uint64_t bottoms_len,
+                         float *running, uint64_t running_len);
 
 /*
  * The scroll key: the position in list, from 0, of the first leaf whose bottom
@@ -274,124 +297,13 @@ uint64_t mearrasot_index(const uint32_t *words, size_t words_len,
  * is as mearrasot_index left it. Refused with 10, found stays as it was.
  */
 #define MEARRASOT_NONE UINT64_MAX
-uint64_t mearrasot_scroll(const float *running, size_t running_len, float y,
+uint64_t mearrasot_scroll(const float *running, uint64_t running_len, float y,
                           uint64_t found[1]);
-
-/* ---- Helpers, for the caller's convenience ---- */
-
-/*
- * A node with size nodes in its subtree and that style. Sizes, limits and
- * insets are auto, margins, padding and border 0 pixels, all else is 0.
- */
-static inline void mearrasot_node(uint32_t *words, float *numbers, size_t node,
-                                  uint32_t size, uint32_t style) {
-    uint32_t *w = words + MEARRASOT_WORDS * node;
-    float *x = numbers + MEARRASOT_NUMBERS * node;
-    size_t f;
-    w[0] = size;
-    w[1] = style;
-    w[2] = 0x05555000u; /* margins and padding: pixels */
-    w[3] = 0x00000055u; /* border: pixels */
-    for (f = 0; f < MEARRASOT_NUMBERS; f++) {
-        x[f] = 0.0f;
-    }
-}
-
-/* One of the fields 0 to 21 with its unit. */
-static inline void mearrasot_set(uint32_t *words, float *numbers, size_t node,
-                                 unsigned field, uint32_t unit, float value) {
-    uint32_t *w = words + MEARRASOT_WORDS * node + (field < 14u ? 2 : 3);
-    unsigned at = 2u * (field < 14u ? field : field - 14u);
-    *w = (*w & ~((uint32_t)3u << at)) | (unit << at);
-    numbers[MEARRASOT_NUMBERS * node + field] = value;
-}
-
-/* What a leaf measures: narrowest and widest width, and height. */
-static inline void mearrasot_measure(float *numbers, size_t node, float least,
-                                     float most, float height) {
-    float *x = numbers + MEARRASOT_NUMBERS * node;
-    x[MEARRASOT_F_LEAF_MIN] = least;
-    x[MEARRASOT_F_LEAF_MAX] = most;
-    x[MEARRASOT_F_LEAF_HEIGHT] = height;
-}
-
-/* The tables of a page, with lengths by the number of nodes and of records. */
-struct mearrasot_page {
-    size_t nodes;
-    const uint32_t *words;
-    const float *numbers;
-    float *rows;
-    uint32_t *marks;
-    size_t records;
-    uint32_t *pairs;
-    float *triples;
-};
-
-struct mearrasot_question {
-    float known_width;
-    float known_height;
-    float parent_width;
-    float available;
-    uint32_t how;
-};
-
-static inline uint64_t mearrasot_layout_page(const struct mearrasot_page *p,
-                                             struct mearrasot_question q) {
-    return mearrasot_layout(
-        p->words, MEARRASOT_WORDS * p->nodes,
-        p->numbers, MEARRASOT_NUMBERS * p->nodes,
-        p->rows, MEARRASOT_ROW * p->nodes,
-        p->marks, MEARRASOT_MARKS * p->nodes,
-        p->pairs, MEARRASOT_PAIR * p->records,
-        p->triples, MEARRASOT_TRIPLE * p->records,
-        q.known_width, q.known_height, q.parent_width, q.available, q.how);
-}
-
-static inline uint64_t mearrasot_relayout_page(const struct mearrasot_page *p,
-                                               const uint32_t *edits,
-                                               size_t edits_len,
-                                               struct mearrasot_question q) {
-    return mearrasot_relayout(
-        p->words, MEARRASOT_WORDS * p->nodes,
-        p->numbers, MEARRASOT_NUMBERS * p->nodes,
-        p->rows, MEARRASOT_ROW * p->nodes,
-        p->marks, MEARRASOT_MARKS * p->nodes,
-        p->pairs, MEARRASOT_PAIR * p->records,
-        p->triples, MEARRASOT_TRIPLE * p->records,
-        edits, edits_len,
-        q.known_width, q.known_height, q.parent_width, q.available, q.how);
-}
-
-static inline uint64_t mearrasot_size_page(const struct mearrasot_page *p,
-                                           float size[2],
-                                           struct mearrasot_question q) {
-    return mearrasot_size(
-        p->words, MEARRASOT_WORDS * p->nodes,
-        p->numbers, MEARRASOT_NUMBERS * p->nodes, size,
-        q.known_width, q.known_height, q.parent_width, q.available, q.how);
-}
-
-/* An index of a page, with lengths by the number of its leaves. */
-struct mearrasot_leaves {
-    size_t count;
-    const uint32_t *list;
-    float *tops;
-    float *bottoms;
-    float *running;
-};
-
-static inline uint64_t mearrasot_index_page(const struct mearrasot_page *p,
-                                            const struct mearrasot_leaves *l) {
-    return mearrasot_index(
-        p->words, MEARRASOT_WORDS * p->nodes,
-        p->rows, MEARRASOT_ROW * p->nodes,
-        p->marks, MEARRASOT_MARKS * p->nodes,
-        l->list, l->count,
-        l->tops, l->count, l->bottoms, l->count, l->running, l->count);
-}
 
 #ifdef __cplusplus
 }
 #endif
+
+#include "mearrasot_tables.h"
 
 #endif

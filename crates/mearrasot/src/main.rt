@@ -1,4 +1,5 @@
-// Reads a page file from standard input and writes its answer to standard output.
+// Reads a page file from standard input and writes its answer to standard output. If that fails, it says so on standard error.
+use libc::STDERR_FILENO;
 use libc::STDIN_FILENO;
 use libc::STDOUT_FILENO;
 
@@ -8,5 +9,7 @@ fn main() {
     let n = io::read_full(STDIN_FILENO, &mut text);
     let mut out = [0u8; 131072];
     let k = pages::page_output(&text[..n], &mut out);
-    io::write_all(STDOUT_FILENO, &out[..k]);
+    if !io::write_all(STDOUT_FILENO, &out[..k]) {
+        io::write_all(STDERR_FILENO, b"mearrasot: the output was lost\n");
+    }
 }
