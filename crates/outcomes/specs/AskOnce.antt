@@ -1,8 +1,8 @@
 -- Ask once, trust it: of one page and one question the both-axes size question gives numbers 2 and 3 of the root's row that a layout leaves.
-use mathlib.Core.Path.{_≡_, refl, sym, ap, _∙_, subst}
+use mathlib.Core.Path.{_≡_, refl, sym, ap, _∙_}
 use mathlib.Core.Bool.{Bool, true, false, not, _&&_, _||_}
-use mathlib.Core.List.{List, [], _∷_, _++_}
-use Prim.Native.Nat.{ℕ, zero, _+_, _-_, _*_, _/_, _^_, _<_}
+use mathlib.Core.List.{List, [], _∷_}
+use Prim.Native.Nat.{ℕ, _+_, _-_, _*_, _/_, _^_, _<_}
 use native.Mathlib.Omega.{arith}
 use lib.ListN.{getD}
 use lib.Dec.{eqb}
@@ -16,13 +16,13 @@ use Rattle.util.specs.declared.OptionF32.the-variants.{None}
 use Rattle.style.specs.Codes.{codeAt, flagAt, clearFrom, unitOf}
 use Rattle.style.specs.Style.{wordAt}
 use Rattle.style.specs.Flow.{isLeaf}
-use Rattle.tree.specs.Tree.{Tree, Forest, node, mapT, flatT, flatF}
+use Rattle.tree.specs.Tree.{Tree, Forest, node}
 use Rattle.tree.specs.Table.{from, parseF, parseT}
 use Rattle.tree.specs.declared.NodeId.{NodeId}
 use Rattle.tree.proofs.Laws.{flatT-node}
-use Rattle.steps.specs.Scan.{some, lowest}
+use Rattle.steps.specs.Scan.{some}
 use Rattle.steps.specs.Row.{Row, rowNumbers, laidRow}
-use Rattle.steps.specs.Page.{Site, siteAt, nodesIn, pageOf}
+use Rattle.steps.specs.Page.{siteAt, nodesIn, pageOf}
 use Rattle.steps.specs.Question.{rootInput}
 use Rattle.steps.specs.Layout.{fresh}
 use Rattle.steps.specs.SizeQuestion.{axes, sizeOf}
@@ -36,12 +36,11 @@ use Rattle.steps.specs.declared.Answer.{Answer}
 use Rattle.steps.specs.declared.Answer.the-variants as answer
 use Rattle.steps.specs.declared.SizeAnswer.{SizeAnswer}
 use Rattle.steps.specs.declared.SizeAnswer.the-variants.{Sized, Refused}
-use Rattle.steps.specs.declared.Found.the-variants.{Nowhere}
 use Rattle.steps.specs.declared.Tested.the-variants.{Pass}
 use Rattle.tables.specs.Leaves.{leafWord}
-use Rattle.tables.specs.Refusals.{Lowest, Sound, PageSound, LayoutSound, SizeDue, LayoutDue}
+use Rattle.tables.specs.Refusals.{Sound, LayoutSound}
 use Rattle.tables.proofs.Passing.{sized}
-use Rattle.tables.proofs.GoodPage.{leafSite, site-leaf}
+use Rattle.tables.proofs.GoodPage.{site-leaf}
 use Rattle.tables.proofs.ScanLaws.{never, some-is, nowhere-lowest}
 use Rattle.tables.proofs.Exactly.{layout-exactly}
 use Rattle.laws.specs.AskOnce.{size-is-laid, root-laid}

@@ -1,6 +1,6 @@
 -- A page without a fraction of a height has the rows that it had before percent heights, but for number 14 and bit 8.
 use mathlib.Core.Path.{_≡_, refl, sym, ap, _∙_}
-use mathlib.Core.Bool.{Bool, true, false, cond, _||_}
+use mathlib.Core.Bool.{Bool, true, false}
 use Prim.Native.Nat.{ℕ, _+_, _*_, _/_, _%_}
 use native.Mathlib.Omega.{arith}
 use lib.Dec.{eqb}
@@ -16,17 +16,15 @@ use Rattle.style.specs.declared.Flow.{Flow}
 use Rattle.style.specs.declared.Flow.the-variants.{Gone, Out, In}
 use Rattle.style.specs.declared.Style.{Style}
 use Rattle.tree.specs.Tree.{Tree, Forest, node, none, more, mapT, mapF, rootT, onRoot}
-use Rattle.tree.proofs.Laws.{mapT-node, mapF-none, mapF-more, map-mapT, map-mapF, rootT-map}
-use Rattle.steps.specs.Row.{Row, ProbeWords, bit, isLaid, isOut, bare, noRow, hiddenRow, asideRow, laidRow, putAt, lowered}
+use Rattle.steps.specs.Row.{Row, ProbeWords, bit, isLaid, isOut, laidRow, putAt, lowered}
 use Rattle.steps.specs.Page.{Site, Cell, Node, blank}
 use Rattle.steps.specs.Question.{rootInput}
-use Rattle.steps.specs.Sizing.{knownOf}
 use Rattle.steps.specs.Edges.{frameOf, stepI}
 use Rattle.steps.specs.Stack.{innerWidth, startOf, itemOf, askedWidth, childInput, questionTo, atTop, gapOf, freeOf, placeX, placeY, placeOf, pastBox, stepped, lineOf, edgesOf, pastAside, pastHidden}
 use Rattle.steps.specs.Height.{extraOf, stepK, stepL, heldOpen, stillOwnEnd, stepM}
 use Rattle.steps.specs.Through.{stepN, outputOf, finished, leafOutput}
 use Rattle.steps.specs.Probe.{widthPass}
-use Rattle.steps.specs.Kept.{Laid, zerosT, zerosF}
+use Rattle.steps.specs.Kept.{Laid, zerosF}
 use Rattle.steps.specs.Layout.{Stacked, leafLaid, blockLaid, skip, aside, place, lowerF, alignF, layT, layF, askT, relaid, fresh}
 use Rattle.steps.specs.declared.LayoutInput.{LayoutInput}
 use Rattle.steps.specs.declared.LayoutOutput.{LayoutOutput}

@@ -1,12 +1,12 @@
 -- The final pass: with fractions of heights read as auto, what goes across a row is the same at every node.
 use mathlib.Core.Path.{_≡_, refl, sym, ap, _∙_}
-use mathlib.Core.Bool.{Bool, true, false, cond}
+use mathlib.Core.Bool.{Bool, true, false}
 use Prim.Native.Nat.{ℕ}
 use lib.Ieee.{Float}
 use Rattle.geometry.specs.Geometry.{zeroF, across}
 use Rattle.geometry.specs.declared.Point.{Point}
 use Rattle.util.specs.Math.{larger}
-use Rattle.util.specs.Maybe.{orZero, isSome, unwrapOr, orElse, floorOpt}
+use Rattle.util.specs.Maybe.{unwrapOr, orElse, floorOpt}
 use Rattle.util.specs.declared.OptionF32.{OptionF32}
 use Rattle.util.specs.declared.OptionF32.the-variants.{None, Some}
 use Rattle.util.specs.declared.OptionSize.{OptionSize}
@@ -24,10 +24,10 @@ use Rattle.steps.specs.Page.{Site, Cell, Node, blank}
 use Rattle.steps.specs.Question.{rootInput}
 use Rattle.steps.specs.Sizing.{sizingOf, stepA, stepB, stepD, filled, knownAxis, knownOf, gutter, insets}
 use Rattle.steps.specs.Edges.{frameOf, stepI}
-use Rattle.steps.specs.Stack.{innerWidth, startOf, offsetX, relativeOffset, offsetBy, itemOf, askedWidth, childInput, questionTo, freeOf, placeX, placeOf, stepped, lineOf, edgesOf, pastAside, pastHidden}
+use Rattle.steps.specs.Stack.{innerWidth, startOf, relativeOffset, offsetBy, itemOf, askedWidth, childInput, questionTo, freeOf, placeX, placeOf, stepped, lineOf, edgesOf, pastAside, pastHidden}
 use Rattle.steps.specs.Through.{outputOf, finished, leafOutput}
-use Rattle.steps.specs.Probe.{Passed, widthPass}
-use Rattle.steps.specs.Kept.{Laid, zerosT, zerosF}
+use Rattle.steps.specs.Probe.{widthPass}
+use Rattle.steps.specs.Kept.{Laid, zerosT}
 use Rattle.steps.specs.Layout.{Stacked, leafLaid, blockLaid, skip, aside, place, lowerF, alignF, layT, layF, askT, relaid, fresh}
 use Rattle.steps.specs.declared.LayoutInput.{LayoutInput}
 use Rattle.steps.specs.declared.LayoutOutput.{LayoutOutput}

@@ -1,6 +1,6 @@
 -- The two theorems of lent tables: what the tables say of each node, and what the tests before any write grant.
 use mathlib.Core.Path.{_≡_, refl, sym, ap, _∙_}
-use mathlib.Core.Bool.{Bool, true, false, cond, not, _&&_, _||_}
+use mathlib.Core.Bool.{Bool, true, false, cond, not, _&&_}
 use mathlib.Core.List.{List, []}
 use Prim.Native.Nat.{ℕ, zero, suc, _<_}
 use native.Mathlib.Omega.{arith}
@@ -11,11 +11,10 @@ use Rattle.limits.specs.Bools.{or-left, or-right}
 use Rattle.util.specs.Maybe.{isSome}
 use Rattle.style.specs.Codes.{lengthOf, ratioOf}
 use Rattle.style.specs.Style.{numberAt, lengthAt, sizeAt, rectAt, styleAt}
-use Rattle.tree.specs.Tree.{Tree, mapT}
-use Rattle.steps.specs.Scan.{lowest}
-use Rattle.steps.specs.Page.{Site, siteAt, nodesIn, pageOf}
+use Rattle.tree.specs.Tree.{mapT}
+use Rattle.steps.specs.Page.{siteAt, nodesIn, pageOf}
 use Rattle.steps.specs.Question.{rootInput}
-use Rattle.steps.specs.Noes.{badTables, fractionAt, ratioBesideFraction, badCodes, badStyle, pageTested}
+use Rattle.steps.specs.Noes.{badTables, fractionAt, ratioBesideFraction, badStyle, pageTested}
 use Rattle.steps.specs.Layout.{fresh}
 use Rattle.util.specs.declared.OptionF32.the-variants.{None, Some}
 use Rattle.steps.specs.declared.Question.{Question}

@@ -1,6 +1,6 @@
 -- The width pass does not read fractions of heights: with these auto, it gives every node the same probe words.
 use mathlib.Core.Path.{_≡_, refl, sym, ap, _∙_}
-use mathlib.Core.Bool.{Bool, true, false, cond, not, _&&_}
+use mathlib.Core.Bool.{Bool, true, false, not}
 use lib.Ieee.{Float}
 use Rattle.geometry.specs.Geometry.{zeroF}
 use Rattle.util.specs.Math.{larger}
@@ -12,12 +12,11 @@ use Rattle.style.specs.Flow.{isLeaf, flowOf}
 use Rattle.style.specs.declared.Flow.{Flow}
 use Rattle.style.specs.declared.Flow.the-variants.{Gone, Out, In}
 use Rattle.style.specs.declared.Style.{Style}
-use Rattle.tree.specs.Tree.{Tree, Forest, node, none, more, mapT, mapF, rootT}
+use Rattle.tree.specs.Tree.{Tree, Forest, node, none, more, mapT, mapF}
 use Rattle.tree.proofs.Laws.{mapT-node, mapF-none, mapF-more, map-mapT, map-mapF, rootT-map}
 use Rattle.steps.specs.Sizing.{stepA, stepD, knownOf, gutter, insets}
 use Rattle.steps.specs.Width.{sideMargins, outerWidth, wantIn, wantOf}
-use Rattle.steps.specs.Row.{ProbeWords}
-use Rattle.steps.specs.Page.{Site, Cell, Node, anyT, blank, cleared, staying, probedAnew, edits}
+use Rattle.steps.specs.Page.{Site, Cell, Node, cleared, staying, probedAnew, edits}
 use Rattle.steps.specs.Probe.{Probed, Widest, Passed, answered, stay, probeT, probeF, askP, asked, blockProbe, probeKnown, spaceIn, foundWidth, widen, passBy, widthPass}
 use Rattle.steps.specs.declared.LayoutInput.{LayoutInput}
 use Rattle.steps.specs.declared.ProbeInput.{ProbeInput}

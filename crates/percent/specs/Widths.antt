@@ -1,27 +1,22 @@
 -- No width depends on a fraction of a height: with the fractions of fields 1, 3 and 5 read as auto, numbers 0, 2, 8 and 10 to 13 of every row are the same.
 use mathlib.Core.Path.{_≡_, refl, sym, ap, _∙_}
 use mathlib.Core.Bool.{Bool, true, false, cond}
-use Prim.Native.Nat.{ℕ}
 use lib.Ieee.{Float}
-use Rattle.geometry.specs.Geometry.{zeroF, across, sumAxes, plus}
-use Rattle.geometry.specs.declared.Point.{Point}
+use Rattle.geometry.specs.Geometry.{sumAxes, plus}
 use Rattle.geometry.specs.declared.Rect.{Rect}
-use Rattle.util.specs.Maybe.{orZero, isSome, unwrapOr, orElse, addSize, addOpt, floorOpt, clampOpt, ratioFills, subOpt}
+use Rattle.util.specs.Maybe.{isSome, addSize, ratioFills}
 use Rattle.util.specs.declared.OptionF32.{OptionF32}
 use Rattle.util.specs.declared.OptionF32.the-variants.{None, Some}
 use Rattle.util.specs.declared.OptionSize.{OptionSize}
 use Rattle.length.specs.Length.{resolved, scaled, resolvedRect, resolvedSize}
 use Rattle.length.specs.declared.Length.{Length}
 use Rattle.length.specs.declared.Length.the-variants.{Auto, Pixels, Fraction}
-use Rattle.length.specs.declared.LengthRect.{LengthRect}
 use Rattle.length.specs.declared.LengthSize.{LengthSize}
-use Rattle.style.specs.declared.Position.{Position}
-use Rattle.style.specs.declared.Position.the-variants.{Static, Relative, Absolute}
 use Rattle.style.specs.declared.Style.{Style}
 use Rattle.steps.specs.Row.{Row, RowProbe}
 use Rattle.steps.specs.Sizing.{boxSize, sizedBy, sizingOf, stepA}
 use Rattle.steps.specs.declared.Sizing.{Sizing}
-use Rattle.percent.specs.Parts.{isPart, NoParts, whole-length, whole-sizing}
+use Rattle.percent.specs.Parts.{isPart, NoParts, whole-sizing}
 
 -- a length that is auto where it was a fraction
 abbrev pub autoPart : Length → Length
