@@ -24,7 +24,7 @@ extern "C" {
  * is not in the archive: take header and archive from the same commit.
  */
 #define MEARRASOT_VERSION_MAJOR 1
-#define MEARRASOT_VERSION_MINOR 1
+#define MEARRASOT_VERSION_MINOR 2
 #define MEARRASOT_VERSION_PATCH 0
 
 /* ---- Limits ---- */
@@ -76,11 +76,21 @@ extern "C" {
 #define MEARRASOT_Y_CLIP (1u << 8)
 #define MEARRASOT_Y_HIDDEN (2u << 8)
 #define MEARRASOT_Y_SCROLL (3u << 8)
-/* Where the content stands in a taller box, bits 10-11. */
+/*
+ * Where the content stands in a taller box: one of these. Bits 10-11 or 13-15, and 17. The content is one stack, so
+ * space-between and stretch act as start, space-around and space-evenly as safe center. Plain center and end are
+ * unsafe: content that is taller than its box rises above it. Safe, it does not.
+ */
 #define MEARRASOT_ALIGN_NORMAL (0u << 10)
 #define MEARRASOT_ALIGN_START (1u << 10)
 #define MEARRASOT_ALIGN_CENTER (2u << 10)
 #define MEARRASOT_ALIGN_END (3u << 10)
+#define MEARRASOT_ALIGN_SPACE_BETWEEN (1u << 13)
+#define MEARRASOT_ALIGN_SPACE_AROUND (2u << 13)
+#define MEARRASOT_ALIGN_SPACE_EVENLY (3u << 13)
+#define MEARRASOT_ALIGN_STRETCH (4u << 13)
+#define MEARRASOT_ALIGN_SAFE_CENTER (1u << 17 | MEARRASOT_ALIGN_CENTER)
+#define MEARRASOT_ALIGN_SAFE_END (1u << 17 | MEARRASOT_ALIGN_END)
 /* No margin collapses through this box. */
 #define MEARRASOT_CONTAINED (1u << 12)
 

@@ -59,6 +59,28 @@ static void test_align(void) {
     CHECK(of(2, q).y == 0);
 }
 
+/* Each word with 40 pixels of room, then with 6 too few. */
+static void test_align_words(void) {
+    static const struct {
+        uint32_t word;
+        float roomy, tight;
+    } rows[] = {{MEARRASOT_ALIGN_NORMAL, 0, 0},         {MEARRASOT_ALIGN_START, 0, 0},
+                {MEARRASOT_ALIGN_CENTER, 20, -3},       {MEARRASOT_ALIGN_END, 40, -6},
+                {MEARRASOT_ALIGN_SAFE_CENTER, 20, 0},   {MEARRASOT_ALIGN_SAFE_END, 40, 0},
+                {MEARRASOT_ALIGN_SPACE_BETWEEN, 0, 0},  {MEARRASOT_ALIGN_SPACE_AROUND, 20, 0},
+                {MEARRASOT_ALIGN_SPACE_EVENLY, 20, 0},  {MEARRASOT_ALIGN_STRETCH, 0, 0}};
+    const struct mearrasot_question q = mearrasot_screen(100);
+    unsigned k;
+    build(MEARRASOT_BLOCK);
+    for (k = 0; k < sizeof rows / sizeof rows[0]; k++) {
+        mearrasot_align(&page, 1, rows[k].word);
+        mearrasot_height_px(&page, 1, 50);
+        CHECK(of(2, q).y == rows[k].roomy);
+        mearrasot_height_px(&page, 1, 4);
+        CHECK(of(2, q).y == rows[k].tight);
+    }
+}
+
 /* The leaf's top margin stays inside a box that is contained, or that hides or scrolls in either direction. */
 static void test_margins(void) {
     static const uint32_t inside[] = {MEARRASOT_CONTAINED, MEARRASOT_X_HIDDEN, MEARRASOT_X_SCROLL,
@@ -126,6 +148,7 @@ static void test_question(void) {
 int main(void) {
     test_box();
     test_align();
+    test_align_words();
     test_margins();
     test_question();
     return report("styles");

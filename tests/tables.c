@@ -107,7 +107,7 @@ static void test_tables_refused(void) {
     REFUSED(MEARRASOT_TREE, 0, q);
     words[1] = MEARRASOT_HIDDEN;
     REFUSED(MEARRASOT_CODES, 0, q);
-    words[MEARRASOT_WORDS * 3 + 1] |= 1u << 13;
+    words[MEARRASOT_WORDS * 3 + 1] |= 1u << 18;
     REFUSED(MEARRASOT_CODES, 3, q);
     mearrasot_set(words, numbers, 5, MEARRASOT_F_PADDING, MEARRASOT_AUTO, 0);
     REFUSED(MEARRASOT_CODES, 5, q);
@@ -192,7 +192,7 @@ static void test_index(void) {
     words[0] = 5;
     IS(mearrasot_index_page(&p, &l), MEARRASOT_TREE, 0);
     mend();
-    words[1] = 1u << 13;
+    words[1] = 1u << 18;
     IS(mearrasot_index_page(&p, &l), MEARRASOT_CODES, 0);
     mend();
     p.nodes = 0;

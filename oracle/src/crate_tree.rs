@@ -5,8 +5,8 @@ use crate::page::{self, field, Ask, Available, Kind, Page};
 use taffy_block::compute::{compute_block_layout, BlockContext};
 use taffy_block::geometry::{Line, Point, Rect, Size};
 use taffy_block::style::{
-    AlignContent, AlignContentKeyword, AvailableSpace, BoxSizing, CompactLength, Contain, Dimension,
-    Direction, Display, LengthPercentage, LengthPercentageAuto, Overflow, Position, Style,
+    AlignContent, AlignContentKeyword, AlignmentSafety, AvailableSpace, BoxSizing, CompactLength, Contain,
+    Dimension, Direction, Display, LengthPercentage, LengthPercentageAuto, Overflow, Position, Style,
 };
 use taffy_block::tree::{
     Layout, LayoutBlockContainer, LayoutInput, LayoutOutput, LayoutPartialTree, NodeId, OofCandidate,
@@ -158,12 +158,19 @@ fn style(page: &Page, node: usize) -> Style {
             page::Position::OutOfFlow => Position::Absolute,
         },
         overflow: Point { x: overflow(page.overflow_x(node)), y: overflow(page.overflow_y(node)) },
-        align_content: AlignContent::plain(match page.align(node) {
-            page::Align::Normal => AlignContentKeyword::Normal,
-            page::Align::Start => AlignContentKeyword::Start,
-            page::Align::Center => AlignContentKeyword::Center,
-            page::Align::End => AlignContentKeyword::End,
-        }),
+        align_content: AlignContent {
+            keyword: match page.align(node) {
+                page::Align::Normal => AlignContentKeyword::Normal,
+                page::Align::Start => AlignContentKeyword::Start,
+                page::Align::Center => AlignContentKeyword::Center,
+                page::Align::End => AlignContentKeyword::End,
+                page::Align::SpaceBetween => AlignContentKeyword::SpaceBetween,
+                page::Align::SpaceAround => AlignContentKeyword::SpaceAround,
+                page::Align::SpaceEvenly => AlignContentKeyword::SpaceEvenly,
+                page::Align::Stretch => AlignContentKeyword::Stretch,
+            },
+            safety: if page.safe(node) { AlignmentSafety::Safe } else { AlignmentSafety::Unsafe },
+        },
         contain: if page.contained(node) { Contain::LAYOUT } else { Contain::NONE },
         size: Size { width: size(field::SIZE), height: size(field::SIZE + 1) },
         min_size: Size { width: or_auto(field::MIN), height: or_auto(field::MIN + 1) },

@@ -35,6 +35,10 @@ const BLOCK: u32 = 0;
 const LEAF: u32 = 1;
 const HIDDEN: u32 = 2;
 
+/// Start, center, end, each word, and safe center and end.
+const ALIGNS: [u32; 9] =
+    [1 << 10, 2 << 10, 3 << 10, 1 << 13, 2 << 13, 3 << 13, 4 << 13, 1 << 17 | 2 << 10, 1 << 17 | 3 << 10];
+
 /// Height, its minimum and maximum: beside a fraction in one of these 01 refuses a ratio.
 const HEIGHTS: [usize; 3] = [field::SIZE + 1, field::MIN + 1, field::MAX + 1];
 
@@ -186,7 +190,7 @@ impl Maker<'_> {
     /// both. Only -0 is no ratio.
     fn spoil(&mut self, nodes: usize) {
         let mut some_node = || self.random.below(nodes as u64) as usize;
-        let (node, other) = (some_node(), some_node());
+        let (node, other, last) = (some_node(), some_node(), some_node());
         if self.random.chance(80) {
             let field = self.random.one_of(&HEIGHTS);
             let (word, at) = unit_place(field);
@@ -197,8 +201,16 @@ impl Maker<'_> {
                 self.random.one_of(&[-0.0, 1.0 / 64.0, 1.0, 64.0, 100.0, -1.0, f32::NAN]);
         }
         if self.random.chance(40) {
-            let (word, bit) = self.random.one_of(&[(1, 13), (1, 31), (2, 28), (2, 31), (3, 16), (3, 31)]);
+            let (word, bit) =
+                self.random.one_of(&[(1, 16), (1, 18), (1, 31), (2, 28), (2, 31), (3, 16), (3, 31)]);
             self.words[WORDS * other + word] |= 1 << bit;
+        }
+        if self.random.chance(40) {
+            // Any word beside any bits 10-11 and any safety: most of these mean nothing.
+            let (plain, word, safe) =
+                (self.random.below(4) as u32, self.random.below(8) as u32, self.random.below(2) as u32);
+            let style = &mut self.words[WORDS * last + 1];
+            *style = *style & !(3 << 10 | 7 << 13 | 1 << 17) | plain << 10 | word << 13 | safe << 17;
         }
     }
 
@@ -213,14 +225,14 @@ impl Maker<'_> {
         let position = if out { 2 } else { random.chance(mood.relative) as u32 };
         let overflow_x = if random.chance(mood.scroll) { random.below(4) as u32 } else { 0 };
         let overflow_y = if random.chance(mood.scroll) { random.below(4) as u32 } else { 0 };
-        let align = if random.chance(12) { random.below(4) as u32 } else { 0 };
+        let align = if random.chance(16) { random.one_of(&ALIGNS) } else { 0 };
         let contained = random.chance(5) as u32;
         content_box << 2
             | rtl << 3
             | position << 4
             | overflow_x << 6
             | overflow_y << 8
-            | align << 10
+            | align
             | contained << 12
     }
 

@@ -60,6 +60,10 @@ pub enum Align {
     Start,
     Center,
     End,
+    SpaceBetween,
+    SpaceAround,
+    SpaceEvenly,
+    Stretch,
 }
 
 #[derive(Copy, Clone, PartialEq)]
@@ -176,12 +180,19 @@ impl Page {
         self.overflow(node, 8)
     }
     pub fn align(&self, node: usize) -> Align {
-        match self.style(node, 10, 2) {
-            0 => Align::Normal,
-            1 => Align::Start,
-            2 => Align::Center,
-            _ => Align::End,
+        match (self.style(node, 13, 3), self.style(node, 10, 2)) {
+            (0, 0) => Align::Normal,
+            (0, 1) => Align::Start,
+            (0, 2) => Align::Center,
+            (0, _) => Align::End,
+            (1, _) => Align::SpaceBetween,
+            (2, _) => Align::SpaceAround,
+            (3, _) => Align::SpaceEvenly,
+            _ => Align::Stretch,
         }
+    }
+    pub fn safe(&self, node: usize) -> bool {
+        self.style(node, 17, 1) == 1
     }
     pub fn contained(&self, node: usize) -> bool {
         self.style(node, 12, 1) == 1

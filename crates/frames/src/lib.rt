@@ -35,6 +35,10 @@ fn is_align_normal(a: AlignContent) -> bool
         AlignContent::Start => false,
         AlignContent::Center => false,
         AlignContent::End => false,
+        AlignContent::SpaceBetween => false,
+        AlignContent::SpaceAround => false,
+        AlignContent::SpaceEvenly => false,
+        AlignContent::Stretch => false,
     }
 }
 

@@ -79,9 +79,10 @@ fn shift_of(s: Style, f: Frame, height: f32, content: f32) -> OptionF32
     ensures { λ r. ⌜ r ≡ stepM s f height content ⌝ }
 {
     let align = s.align;
+    let safe = s.safe;
     let inset = f.inset;
     let down = inset.vertical_axis_sum();
-    alignment::compute_alignment_offset(align, (height - down) - (content - down))
+    alignment::compute_alignment_offset(align, safe, (height - down) - (content - down))
 }
 
 // Step N.

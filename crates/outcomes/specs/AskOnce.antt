@@ -26,7 +26,7 @@ use Rattle.steps.specs.Page.{siteAt, nodesIn, pageOf}
 use Rattle.steps.specs.Question.{rootInput}
 use Rattle.steps.specs.Layout.{fresh}
 use Rattle.steps.specs.SizeQuestion.{axes, sizeOf}
-use Rattle.steps.specs.Noes.{badTables, badRows, badUnit, badCodes, ratioBesideFraction, badStyle, badRow, paper}
+use Rattle.steps.specs.Noes.{badTables, badRows, badUnit, badAlign, badCodes, ratioBesideFraction, badStyle, badRow, paper}
 use Rattle.steps.specs.Results.{Reply, rowsOut, accepted, overLimit, replied, tested, layoutResult, sizeResult, sizePaper}
 use Rattle.steps.specs.declared.LayoutInput.{LayoutInput}
 use Rattle.steps.specs.declared.LayoutOutput.{LayoutOutput}
@@ -68,7 +68,7 @@ root-block ws xs e =
     let a = or-right (ratioBesideFraction ws xs 0) _ e in
     let b = or-right (eqb (codeAt (wordAt ws 0 1) 0) 3) _ a in
     let c = or-right (eqb (codeAt (wordAt ws 0 1) 2) 3) _ b in
-    let d = or-right (not (clearFrom (wordAt ws 0 1) 13)) _ c in
+    let d = or-right (badAlign (wordAt ws 0 1)) _ c in
     let f = or-right (not (clearFrom (wordAt ws 0 2) 28)) _ d in
     let g = or-right (not (clearFrom (wordAt ws 0 3) 16)) _ f in
     let h = or-right (some (λ f. badUnit f (unitOf (wordAt ws 0 2) (wordAt ws 0 3) f)) 22) _ g in

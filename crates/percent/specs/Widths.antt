@@ -37,6 +37,7 @@ autoHeights s =
       position = s .position;
       overflow = s .overflow;
       align = s .align;
+      safe = s .safe;
       contained = s .contained;
       size = autoHeight (s .size);
       min = autoHeight (s .min);

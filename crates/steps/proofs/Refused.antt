@@ -1,8 +1,8 @@
--- Computed of 3: which numbers are a ratio beside a fraction, and beside which fields. Of 8: which numbers of a row are tested.
+-- Computed of 3: which numbers are a ratio beside a fraction, and beside which fields; which align words and safeties. Of 8: which numbers of a row are tested.
 use mathlib.Core.Path.{_≡_, refl}
 use mathlib.Core.Bool.{Bool, true, false}
 use mathlib.Core.List.{List, [], _∷_, _++_, map}
-use Prim.Native.Nat.{ℕ, _*_, _-_, _^_}
+use Prim.Native.Nat.{ℕ, _+_, _*_, _-_, _^_}
 use lib.ListN.{replicate}
 use lib.Ieee.{eq, lt, neg, ofBits, binary32}
 use Rattle.geometry.specs.Geometry.{zeroF}
@@ -10,7 +10,7 @@ use Rattle.limits.specs.Limits.{limit, tooLarge}
 use Rattle.style.specs.Codes.{unitOf}
 use Rattle.style.specs.Style.{wordAt, numberAt}
 use Rattle.steps.specs.Scan.{scan}
-use Rattle.steps.specs.Noes.{ratioBesideFraction, badRow}
+use Rattle.steps.specs.Noes.{ratioBesideFraction, badWord, badSafety, badAlign, badRow}
 
 -- one node whose field f is a fraction, with the ratio of these bits
 abbrev refused : ℕ → ℕ → Bool
@@ -25,6 +25,31 @@ ratios = refl
 pub heights : map (refused 0x3f80_0000) (0 ∷ 1 ∷ 2 ∷ 3 ∷ 4 ∷ 5 ∷ 6 ∷ []) ≡ false ∷ true ∷ false ∷ true ∷ false ∷ true ∷ false ∷ []
 unfolding ratioBesideFraction wordAt numberAt unitOf eq lt ofBits
 heights = refl
+
+-- a style word with these two bits at 10, this word at 13
+abbrev aligned : ℕ → ℕ → ℕ
+aligned plain word = plain * 2 ^ 10 + word * 2 ^ 13
+
+-- none, and the four words; 5 to 7 are unknown
+pub words : map (λ (k : ℕ). badAlign (aligned 0 k)) (0 ∷ 1 ∷ 2 ∷ 3 ∷ 4 ∷ 5 ∷ 6 ∷ 7 ∷ []) ≡ false ∷ false ∷ false ∷ false ∷ false ∷ true ∷ true ∷ true ∷ []
+unfolding badAlign badWord badSafety
+words = refl
+
+-- bits 10-11 without a word, and beside one
+pub beside-a-word : map (λ (k : ℕ). badAlign (aligned k 0)) (0 ∷ 1 ∷ 2 ∷ 3 ∷ []) ++ map (λ (k : ℕ). badAlign (aligned k 4)) (0 ∷ 1 ∷ 2 ∷ 3 ∷ [])
+    ≡ false ∷ false ∷ false ∷ false ∷ false ∷ true ∷ true ∷ true ∷ []
+unfolding badAlign badWord badSafety
+beside-a-word = refl
+
+-- safe: beside normal, start, center and end, then beside the words 1 and 3
+pub safeties : map (λ (w : ℕ). badAlign (w + 2 ^ 17)) (aligned 0 0 ∷ aligned 1 0 ∷ aligned 2 0 ∷ aligned 3 0 ∷ aligned 0 1 ∷ aligned 0 3 ∷ []) ≡ true ∷ true ∷ false ∷ false ∷ true ∷ true ∷ []
+unfolding badAlign badWord badSafety
+safeties = refl
+
+-- bits 12, 16, 18 and 31 alone
+pub unused-bits : map (λ (k : ℕ). badAlign (2 ^ k)) (12 ∷ 16 ∷ 18 ∷ 31 ∷ []) ≡ false ∷ true ∷ true ∷ true ∷ []
+unfolding badAlign badWord badSafety
+unused-bits = refl
 
 -- a row whose number k alone is too large
 abbrev largeAt : ℕ → Bool

@@ -41,4 +41,4 @@ stillOwnEnd f height = f .ownEnd && not (heldOpen (f .minHeight) height)
 
 -- M: free = (height - insets) - (content - insets)
 unfoldable pub stepM : Style → Frame → Float → Float → OptionF32
-stepM s f height content = alignShift (s .align) ((height ⊖ down (f .inset)) ⊖ (content ⊖ down (f .inset)))
+stepM s f height content = alignShift (s .align) (s .safe) ((height ⊖ down (f .inset)) ⊖ (content ⊖ down (f .inset)))

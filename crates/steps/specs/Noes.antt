@@ -10,7 +10,7 @@ use Rattle.limits.specs.Limits.{inRange, tooLarge}
 use Rattle.util.specs.declared.OptionF32.{OptionF32}
 use Rattle.util.specs.declared.OptionF32.the-variants.{None, Some}
 use Rattle.length.specs.Available.{definite}
-use Rattle.style.specs.Codes.{codeAt, clearFrom, flagAt, unitOf}
+use Rattle.style.specs.Codes.{codeAt, distributionAt, clearFrom, flagAt, unitOf}
 use Rattle.style.specs.Style.{wordAt, numberAt}
 use Rattle.steps.specs.Scan.{scan, lowest, firstOf, some, howMany}
 use Rattle.steps.specs.Page.{nodesIn, pageOf}
@@ -76,12 +76,24 @@ noAuto f = leb 10 f && ltb f 18
 unfoldable pub badUnit : ℕ → ℕ → Bool
 badUnit f unit = eqb unit 3 || (eqb unit 0 && noAuto f)
 
+-- 3: words 5 to 7, and a word beside bits 10-11
+unfoldable pub badWord : ℕ → Bool
+badWord w = not (eqb (distributionAt w) 0) && (ltb 4 (distributionAt w) || not (eqb (codeAt w 5) 0))
+
+-- 3: safe beside anything but center and end
+unfoldable pub badSafety : ℕ → Bool
+badSafety w = flagAt w 17 && ltb (codeAt w 5) 2
+
+-- 3: from bit 13 on: the word, the safety, bits 16 and 18 on unused
+unfoldable pub badAlign : ℕ → Bool
+badAlign w = not (clearFrom w 18) || (flagAt w 16 || (badWord w || badSafety w))
+
 -- 3: unknown code, unused bit set, forbidden unit, root not a block
 unfoldable pub badCodes : List ℕ → ℕ → Bool
 badCodes ws i =
     eqb (codeAt (wordAt ws i 1) 0) 3
     || (eqb (codeAt (wordAt ws i 1) 2) 3
-    || (not (clearFrom (wordAt ws i 1) 13)
+    || (badAlign (wordAt ws i 1)
     || (not (clearFrom (wordAt ws i 2) 28)
     || (not (clearFrom (wordAt ws i 3) 16)
     || (some (λ f. badUnit f (unitOf (wordAt ws i 2) (wordAt ws i 3) f)) 22 || (eqb i 0 && not (eqb (codeAt (wordAt ws i 1) 0) 0)))))))

@@ -17,7 +17,7 @@ use Rattle.style.specs.declared.Overflow.the-variants.{Visible, Clip, Sc
 use Rattle.style.specs.declared.Overflow.the-variants as overflow
 use Rattle.style.specs.declared.OverflowXY.{OverflowXY}
 use Rattle.style.specs.declared.AlignContent.{AlignContent}
-use Rattle.style.specs.declared.AlignContent.the-variants.{Normal, Start, Center, End}
+use Rattle.style.specs.declared.AlignContent.the-variants.{Normal, Start, Center, End, SpaceBetween, SpaceAround, SpaceEvenly, Stretch}
 
 -- the two bits at 2f
 abbrev pub codeAt : ℕ → ℕ → ℕ
@@ -26,6 +26,10 @@ codeAt w f = w / 2 ^ (2 * f) % 4
 -- bit k
 abbrev pub flagAt : ℕ → ℕ → Bool
 flagAt w k = eqb (w / 2 ^ k % 2) 1
+
+-- the three bits at 13
+abbrev pub distributionAt : ℕ → ℕ
+distributionAt w = w / 2 ^ 13 % 8
 
 -- no bit from k on is set
 abbrev pub clearFrom : ℕ → ℕ → Bool
@@ -54,6 +58,18 @@ overflowXY w = record { x = overflowOf (codeAt w 3); y = overflowOf (codeAt w 4)
 
 unfoldable pub alignOf : ℕ → AlignContent
 alignOf k = pick4 k Normal Start Center End
+
+-- a word that distributes space, or what else is said; words 5 to 7 are refused (no. 3) before any step asks
+unfoldable pub distributed : ℕ → AlignContent → AlignContent
+distributed zero a = a
+distributed (suc zero) a = SpaceBetween
+distributed (suc (suc zero)) a = SpaceAround
+distributed (suc (suc (suc zero))) a = SpaceEvenly
+distributed (suc (suc (suc (suc k)))) a = Stretch
+
+-- 13-15 the word; where it is 0, 10-11 hold
+unfoldable pub alignAt : ℕ → AlignContent
+alignAt w = distributed (distributionAt w) (alignOf (codeAt w 5))
 
 -- unit of field f: two bits at 2f of the first word for f 0-13, at 2(f-14) of the second for f 14-21
 unfoldable pub unitOf : ℕ → ℕ → ℕ → ℕ

@@ -7,7 +7,7 @@ use Rattle.geometry.specs.Geometry.{zeroF}
 use Rattle.length.specs.declared.Length.{Length}
 use Rattle.length.specs.declared.LengthRect.{LengthRect}
 use Rattle.length.specs.declared.LengthSize.{LengthSize}
-use Rattle.style.specs.Codes.{codeAt, flagAt, kindOf, positionOf, overflowXY, alignOf, unitOf, lengthOf, ratioOf}
+use Rattle.style.specs.Codes.{codeAt, flagAt, kindOf, positionOf, overflowXY, alignAt, unitOf, lengthOf, ratioOf}
 use Rattle.style.specs.declared.Measure.{Measure}
 use Rattle.style.specs.declared.Style.{Style}
 
@@ -42,7 +42,7 @@ rectAt ws i xs j f =
 unfoldable pub measureAt : List Float → ℕ → Measure
 measureAt xs j = record { least = numberAt xs j 24; most = numberAt xs j 25; height = numberAt xs j 26 }
 
--- style bits: 0-1 kind, 2 content-box, 3 RTL, 4-5 position, 6-9 overflow, 10-11 align-content, 12 contained
+-- style bits: 0-1 kind, 2 content-box, 3 RTL, 4-5 position, 6-9 overflow, 10-11 and 13-15 align-content, 12 contained, 17 safe
 unfoldable pub styleAt : List ℕ → ℕ → List Float → ℕ → Style
 styleAt ws i xs j =
     record {
@@ -51,7 +51,8 @@ styleAt ws i xs j =
       rtl = flagAt (wordAt ws i 1) 3;
       position = positionOf (codeAt (wordAt ws i 1) 2);
       overflow = overflowXY (wordAt ws i 1);
-      align = alignOf (codeAt (wordAt ws i 1) 5);
+      align = alignAt (wordAt ws i 1);
+      safe = flagAt (wordAt ws i 1) 17;
       contained = flagAt (wordAt ws i 1) 12;
       size = sizeAt ws i xs j 0;
       min = sizeAt ws i xs j 2;

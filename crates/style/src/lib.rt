@@ -1,7 +1,7 @@
 // A node's style out of its words and numbers (the crate's src/style/*.rs).
 ghost use mathlib.Core.Path.{_≡_};
 ghost use Prim.Native.Nat.{_+_, _<_, _≤_};
-ghost use Rattle.style.specs.Codes.{codeAt, flagAt, clearFrom, kindOf, positionOf, overflowOf, alignOf, overflowXY, unitOf, lengthOf, ratioOf};
+ghost use Rattle.style.specs.Codes.{codeAt, flagAt, clearFrom, kindOf, positionOf, overflowOf, distributionAt, alignOf, distributed, alignAt, overflowXY, unitOf, lengthOf, ratioOf};
 ghost use Rattle.style.specs.Flow.{positioned, flowBy, flowAt, flowOf, isLeaf};
 ghost use Rattle.style.specs.Style.{wordAt, numberAt, lengthAt, sizeAt, rectAt, measureAt, styleAt};
 use length::Length;
@@ -40,6 +40,10 @@ pub enum AlignContent {
     Start,
     Center,
     End,
+    SpaceBetween,
+    SpaceAround,
+    SpaceEvenly,
+    Stretch,
 }
 
 pub struct OverflowXY {
@@ -61,6 +65,7 @@ pub struct Style {
     pub position: Position,
     pub overflow: OverflowXY,
     pub align: AlignContent,
+    pub safe: bool,
     pub contained: bool,
     pub size: LengthSize,
     pub min: LengthSize,
@@ -87,6 +92,13 @@ pub fn flag(w: u32, k: u32) -> bool
     ensures { λ r. ⌜ r ≡ flagAt w k ⌝ }
 {
     ((w >> k) & 1) == 1
+}
+
+// The three bits at 13.
+pub fn distribution(w: u32) -> u32
+    ensures { λ r. ⌜ r ≡ distributionAt w ⌝ }
+{
+    (w >> 13) & 7
 }
 
 // No bit from k on is set.
@@ -138,6 +150,19 @@ fn align_from(k: u32) -> AlignContent
         1 => AlignContent::Start,
         2 => AlignContent::Center,
         _ => AlignContent::End,
+    }
+}
+
+// A word that distributes space; where there is none, what a says.
+fn distributed(k: u32, a: AlignContent) -> AlignContent
+    ensures { λ r. ⌜ r ≡ distributed k a ⌝ }
+{
+    match k {
+        0 => a,
+        1 => AlignContent::SpaceBetween,
+        2 => AlignContent::SpaceAround,
+        3 => AlignContent::SpaceEvenly,
+        _ => AlignContent::Stretch,
     }
 }
 
@@ -242,9 +267,10 @@ pub fn position_of(w: u32) -> Position
 }
 
 fn align_of(w: u32) -> AlignContent
-    ensures { λ r. ⌜ r ≡ alignOf (codeAt w 5) ⌝ }
+    ensures { λ r. ⌜ r ≡ alignAt w ⌝ }
 {
-    align_from(code(w, 5))
+    let plain = align_from(code(w, 5));
+    distributed(distribution(w), plain)
 }
 
 fn overflow_of(w: u32) -> OverflowXY
@@ -284,6 +310,7 @@ pub fn style_at(words: &[u32], i: usize, numbers: &[f32], j: usize) -> Style
         position: position_of(w),
         overflow: overflow_of(w),
         align: align_of(w),
+        safe: flag(w, 17),
         contained: flag(w, 12),
         size: size_at(words, i, numbers, j, 0),
         min: size_at(words, i, numbers, j, 2),

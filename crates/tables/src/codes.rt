@@ -6,10 +6,12 @@ ghost use lib.Dec.{leb, ltb};
 ghost use Rattle.style.specs.Codes.{unitOf};
 ghost use Rattle.steps.specs.Scan.{lowest, some};
 ghost use Rattle.steps.specs.Page.{nodesIn};
-ghost use Rattle.steps.specs.Noes.{noAuto, badUnit, badCodes, ratioBesideFraction, badStyle};
+ghost use Rattle.steps.specs.Noes.{noAuto, badUnit, badWord, badSafety, badAlign, badCodes, ratioBesideFraction, badStyle};
 use steps::Found;
 use style::clear_from;
 use style::code;
+use style::distribution;
+use style::flag;
 use style::number;
 use style::unit;
 use style::word;
@@ -56,6 +58,43 @@ fn some_bad_unit(u: u32, v: u32) -> bool
     false
 }
 
+// 3: a word that is unknown, or stands beside bits 10-11.
+fn bad_word(w: u32) -> bool
+    ensures { λ r. ⌜ r ≡ badWord w ⌝ }
+{
+    let k = distribution(w);
+    if k == 0 {
+        return false;
+    }
+    if 4 < k {
+        return true;
+    }
+    code(w, 5) != 0
+}
+
+// 3: safe beside neither center nor end.
+fn bad_safety(w: u32) -> bool
+    ensures { λ r. ⌜ r ≡ badSafety w ⌝ }
+{
+    if flag(w, 17) { code(w, 5) < 2 } else { false }
+}
+
+// 3: the style word from bit 13 on.
+fn bad_align(w: u32) -> bool
+    ensures { λ r. ⌜ r ≡ badAlign w ⌝ }
+{
+    if !clear_from(w, 18) {
+        return true;
+    }
+    if flag(w, 16) {
+        return true;
+    }
+    if bad_word(w) {
+        return true;
+    }
+    bad_safety(w)
+}
+
 // 3, of node i's words.
 fn bad_codes(words: &[u32], i: usize) -> bool
     ensures { λ r. ⌜ r ≡ badCodes (now (words .entry)) i ⌝ }
@@ -69,7 +108,7 @@ fn bad_codes(words: &[u32], i: usize) -> bool
     if code(style, 2) == 3 {
         return true;
     }
-    if !clear_from(style, 13) {
+    if bad_align(style) {
         return true;
     }
     if !clear_from(u, 28) {

@@ -180,7 +180,9 @@ impl Reading<'_> {
     fn align(&mut self, node: usize, items: &[Item], height: f32, content: f32, inset: f32) {
         let free = (height - inset) - (content - inset);
         let shift = match self.page.align(node) {
-            Align::Normal | Align::Start => return,
+            Align::Normal | Align::Start | Align::SpaceBetween | Align::Stretch => return,
+            Align::SpaceAround | Align::SpaceEvenly => larger(free, 0.0) / 2.0,
+            _ if self.page.safe(node) && free < 0.0 => 0.0,
             Align::Center => free / 2.0,
             Align::End => free,
         };

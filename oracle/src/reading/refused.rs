@@ -11,12 +11,18 @@ fn ratio_beside_fraction(page: &Page, node: usize) -> bool {
     page.ratio(node).is_some() && heights.iter().any(|field| page.unit(node, *field) == FRACTION)
 }
 
+/// A word beyond the four or beside bits 10-11, safe beside neither center nor end, an unused bit.
+fn bad_align(style: u32) -> bool {
+    let (plain, word, safe) = (style >> 10 & 3, style >> 13 & 7, style >> 17 & 1 == 1);
+    word > 4 || word != 0 && plain != 0 || safe && plain < 2 || style >> 16 & 1 == 1 || style >> 18 != 0
+}
+
 /// A code that means nothing, an unused bit, a unit that the field may not have, a root that is no block.
 fn bad_codes(page: &Page, node: usize) -> bool {
     let [style, low, high] = page.style_words(node);
     style & 3 == 3
         || style >> 4 & 3 == 3
-        || style >> 13 != 0
+        || bad_align(style)
         || low >> 28 != 0
         || high >> 16 != 0
         || (0..field::UNITS).any(|field| page.unit(node, field) == 3)

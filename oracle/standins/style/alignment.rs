@@ -1,4 +1,4 @@
-//! Stand-in: the words for alignment. Pages of 01 use four words of align-content, never `safe`.
+//! Stand-in: the words for alignment. Pages of 01 use align-content alone.
 use crate::style::Direction;
 
 #[derive(Copy, Clone, PartialEq, Eq, Debug)]

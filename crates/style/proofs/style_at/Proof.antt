@@ -27,6 +27,9 @@ align-of-requires c κs = search needs
 flag-requires-3 : tie.Need-flag-requires-3
 flag-requires-3 c κs = search needs
 
+flag-requires-4 : tie.Need-flag-requires-4
+flag-requires-4 c κs = search needs
+
 size-at-requires : tie.Need-size-at-requires
 size-at-requires c κs = search needs
 
@@ -59,7 +62,7 @@ measure-at-requires c κs = search needs
 
 returns : tie.Need-returns
 unfolding styleAt
-returns c = rw (c .measure-at .ensures, c .before .number .ensures, c .before .before .ratio-at .ensures, c .before .before .before .rect-at4 .ensures, c .before .before .before .before .rect-at3 .ensures, c .before .before .before .before .before .rect-at2 .ensures) (rw (c .before .before .before .before .before .before .rect-at .ensures, c .before .before .before .before .before .before .before .size-at3 .ensures, c .before .before .before .before .before .before .before .before .size-at2 .ensures, c .before .before .before .before .before .before .before .before .before .size-at .ensures, c .before .before .before .before .before .before .before .before .before .before .flag3 .ensures, c .before .before .before .before .before .before .before .before .before .before .before .align-of .ensures) (rw (c .before .before .before .before .before .before .before .before .before .before .before .before .overflow-of .ensures, c .before .before .before .before .before .before .before .before .before .before .before .before .before .position-of .ensures, c .before .before .before .before .before .before .before .before .before .before .before .before .before .before .flag2 .ensures, c .before .before .before .before .before .before .before .before .before .before .before .before .before .before .before .flag .ensures, c .before .before .before .before .before .before .before .before .before .before .before .before .before .before .before .before .kind-of .ensures, c .before .before .before .before .before .before .before .before .before .before .before .before .before .before .before .before .before .word .ensures)))
+returns c = rw (c .measure-at .ensures, c .before .number .ensures, c .before .before .ratio-at .ensures, c .before .before .before .rect-at4 .ensures, c .before .before .before .before .rect-at3 .ensures, c .before .before .before .before .before .rect-at2 .ensures) (rw (c .before .before .before .before .before .before .rect-at .ensures, c .before .before .before .before .before .before .before .size-at3 .ensures, c .before .before .before .before .before .before .before .before .size-at2 .ensures, c .before .before .before .before .before .before .before .before .before .size-at .ensures, c .before .before .before .before .before .before .before .before .before .before .flag4 .ensures, c .before .before .before .before .before .before .before .before .before .before .before .flag3 .ensures, c .before .before .before .before .before .before .before .before .before .before .before .before .align-of .ensures) (rw (c .before .before .before .before .before .before .before .before .before .before .before .before .before .overflow-of .ensures, c .before .before .before .before .before .before .before .before .before .before .before .before .before .before .position-of .ensures, c .before .before .before .before .before .before .before .before .before .before .before .before .before .before .before .flag2 .ensures, c .before .before .before .before .before .before .before .before .before .before .before .before .before .before .before .before .flag .ensures, c .before .before .before .before .before .before .before .before .before .before .before .before .before .before .before .before .before .kind-of .ensures, c .before .before .before .before .before .before .before .before .before .before .before .before .before .before .before .before .before .before .word .ensures)))
 
 pub style-at-spec : {M : Type 1} → statement M
 style-at-spec =
@@ -73,6 +76,7 @@ style-at-spec =
     overflow-of-requires
     align-of-requires
     flag-requires-3
+    flag-requires-4
     size-at-requires
     size-at-requires-2
     size-at-requires-3
