@@ -17,7 +17,7 @@ int run(char **argv) {
     if (calls >= 1) {
         answer = mearrasot_layout_page(&p, q);
     }
-    numbers[MEARRASOT_NUMBERS * edit + MEARRASOT_F_LEAF_HEIGHT] += 5;
+    numbers[MEARRASOT_NUMBER(n, edit, MEARRASOT_F_LEAF_HEIGHT)] += 5;
     if (calls == 3) {
         edit = (uint32_t)n;
     }

@@ -1,4 +1,4 @@
-/* Three shapes of page, of any size up to 1,024 nodes. */
+/* Three shapes of page, of any size up to 1,024 nodes; `page_nodes` is how many this one has. */
 #ifndef PAGES_H
 #define PAGES_H
 
@@ -10,16 +10,17 @@ static float rows[MEARRASOT_ROW * MEARRASOT_MAX_NODES];
 static uint32_t marks[MEARRASOT_MARKS * MEARRASOT_MAX_NODES];
 static uint32_t pairs[MEARRASOT_PAIR * MEARRASOT_MAX_NODES];
 static float triples[MEARRASOT_TRIPLE * MEARRASOT_MAX_NODES];
+static size_t page_nodes;
 
 static inline void leaf(size_t i) {
-    mearrasot_node(words, numbers, i, 1, MEARRASOT_LEAF);
-    mearrasot_measure(numbers, i, 20, (float)(60 + i % 50), (float)(8 + i % 7));
+    mearrasot_node(words, numbers, page_nodes, i, 1, MEARRASOT_LEAF);
+    mearrasot_measure(numbers, page_nodes, i, 20, (float)(60 + i % 50), (float)(8 + i % 7));
 }
 
 static inline void block(size_t i, size_t size) {
-    mearrasot_node(words, numbers, i, (uint32_t)size, MEARRASOT_BLOCK);
-    mearrasot_set(words, numbers, i, MEARRASOT_F_MARGIN + MEARRASOT_TOP, MEARRASOT_PIXELS, (float)(i % 5));
-    mearrasot_set(words, numbers, i, MEARRASOT_F_MARGIN + MEARRASOT_BOTTOM, MEARRASOT_PIXELS, (float)(i % 3));
+    mearrasot_node(words, numbers, page_nodes, i, (uint32_t)size, MEARRASOT_BLOCK);
+    mearrasot_set(words, numbers, page_nodes, i, MEARRASOT_F_MARGIN + MEARRASOT_TOP, MEARRASOT_PIXELS, (float)(i % 5));
+    mearrasot_set(words, numbers, page_nodes, i, MEARRASOT_F_MARGIN + MEARRASOT_BOTTOM, MEARRASOT_PIXELS, (float)(i % 3));
 }
 
 /* A root and leaves. */
@@ -60,10 +61,10 @@ static inline void mixed_below(size_t at, size_t n) {
     }
     block(at, n);
     if (at % 3 == 1) {
-        mearrasot_set(words, numbers, at, MEARRASOT_F_PADDING + MEARRASOT_LEFT, MEARRASOT_FRACTION, 0.03125f);
+        mearrasot_set(words, numbers, page_nodes, at, MEARRASOT_F_PADDING + MEARRASOT_LEFT, MEARRASOT_FRACTION, 0.03125f);
     }
     if (at % 4 == 2) {
-        mearrasot_set(words, numbers, at, MEARRASOT_F_PADDING + MEARRASOT_TOP, MEARRASOT_PIXELS, 2);
+        mearrasot_set(words, numbers, page_nodes, at, MEARRASOT_F_PADDING + MEARRASOT_TOP, MEARRASOT_PIXELS, 2);
     }
     for (child = 4; child > 0 && left > 0; child--) {
         size_t share = (left + child - 1) / child;
@@ -75,6 +76,7 @@ static inline void mixed_below(size_t at, size_t n) {
 
 /* A page of that shape. It needs same of bare.h. */
 static inline void fill(const char *shape, size_t n) {
+    page_nodes = n;
     if (same(shape, "flat")) {
         flat(n);
     } else if (same(shape, "deep")) {

@@ -70,6 +70,7 @@ static void show_all(size_t depth, uint32_t style, const char *last) {
     int known;
     page = page_of(depth);
     edits[0] = (uint32_t)depth - 1;
+    page_nodes = depth;
     chain(0, depth);
     words[MEARRASOT_WORDS * (depth - 1) + 1] |= style;
     print_number(depth);

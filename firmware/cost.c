@@ -89,7 +89,7 @@ static void costs(const char *shape, int known, size_t n) {
     asked = question(known);
     edit = (uint32_t)middle_leaf(n);
     laid = count(lay);
-    numbers[MEARRASOT_NUMBERS * edit + MEARRASOT_F_LEAF_HEIGHT] += 5;
+    numbers[MEARRASOT_NUMBER(n, edit, MEARRASOT_F_LEAF_HEIGHT)] += 5;
     relaid = count(relay);
     printf("| %s | %s | %u | %lu | %lu | %lu | %lu |%s\n", shape, known ? "known" : "unknown", (unsigned)n, laid, relaid,
            laid / (unsigned long)n, relaid / (unsigned long)n, mearrasot_number(answer) ? " REFUSED" : "");
@@ -100,6 +100,7 @@ static unsigned long deepest(uint32_t style, size_t depth, void (*call)(void)) {
     int known;
     page = page_of(depth);
     edit = (uint32_t)depth - 1;
+    page_nodes = depth;
     chain(0, depth);
     words[MEARRASOT_WORDS * (depth - 1) + 1] |= style;
     for (known = 0; known < 2; known++) {

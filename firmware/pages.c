@@ -75,32 +75,35 @@ static uint32_t unit_for(unsigned f) {
     return below(2) ? MEARRASOT_PIXELS : below(3);
 }
 
+static float *number(uint32_t i, unsigned f) {
+    return &numbers[MEARRASOT_NUMBER(n, i, f)];
+}
+
 /* Everything of a node but its size. */
 static void dress(uint32_t i) {
     uint32_t size = words[MEARRASOT_WORDS * i], style = draw() & 0x1fccu & (draw() | 0x8u);
-    float *x = numbers + MEARRASOT_NUMBERS * i;
     unsigned f, tall = 0;
     style |= below(4) == 0 ? (1 + below(2)) << 4 : 0;
     style |= i == 0 ? 0u : below(16) == 0 ? MEARRASOT_HIDDEN : size == 1 && below(8) ? MEARRASOT_LEAF : MEARRASOT_BLOCK;
-    mearrasot_node(words, numbers, i, size, style);
+    mearrasot_node(words, numbers, n, i, size, style);
     for (f = 0; f < 22; f++) {
         const int signs = (f >= MEARRASOT_F_MARGIN && f < MEARRASOT_F_PADDING) || f >= MEARRASOT_F_INSET;
         uint32_t unit = unit_for(f);
         if (f < 14 && f >= 6 && below(2)) {
             continue;
         }
-        mearrasot_set(words, numbers, i, f, unit, unit == MEARRASOT_FRACTION ? fraction(signs) : pixels(signs));
+        mearrasot_set(words, numbers, n, i, f, unit, unit == MEARRASOT_FRACTION ? fraction(signs) : pixels(signs));
         tall |= unit == MEARRASOT_FRACTION && (f == 1 || f == 3 || f == 5);
     }
-    x[MEARRASOT_F_RATIO] = tall || below(4) ? of_bits(0) : of_bits(between((uint32_t)-(vast ? 6 : 3), 3));
-    x[MEARRASOT_F_SCROLLBAR] = below(2) ? of_bits(0) : of_bits(between(1, 4));
-    x[MEARRASOT_F_LEAF_MIN] = pixels(0);
-    x[MEARRASOT_F_LEAF_MAX] = below(4) && !vast ? of_bits(between(7, 9)) : x[MEARRASOT_F_LEAF_MIN];
-    x[MEARRASOT_F_LEAF_HEIGHT] = pixels(0);
+    *number(i, MEARRASOT_F_RATIO) = tall || below(4) ? of_bits(0) : of_bits(between((uint32_t)-(vast ? 6 : 3), 3));
+    *number(i, MEARRASOT_F_SCROLLBAR) = below(2) ? of_bits(0) : of_bits(between(1, 4));
+    *number(i, MEARRASOT_F_LEAF_MIN) = pixels(0);
+    *number(i, MEARRASOT_F_LEAF_MAX) = below(4) && !vast ? of_bits(between(7, 9)) : *number(i, MEARRASOT_F_LEAF_MIN);
+    *number(i, MEARRASOT_F_LEAF_HEIGHT) = pixels(0);
     if (vast && i > 0 && below(3)) { /* 64 times as tall as wide */
-        mearrasot_node(words, numbers, i, size, size == 1 ? MEARRASOT_LEAF : MEARRASOT_BLOCK);
-        mearrasot_set(words, numbers, i, MEARRASOT_F_WIDTH, MEARRASOT_PIXELS, of_bits(between(14, 16)));
-        x[MEARRASOT_F_RATIO] = of_bits(0x3c800000u);
+        mearrasot_node(words, numbers, n, i, size, size == 1 ? MEARRASOT_LEAF : MEARRASOT_BLOCK);
+        mearrasot_set(words, numbers, n, i, MEARRASOT_F_WIDTH, MEARRASOT_PIXELS, of_bits(between(14, 16)));
+        *number(i, MEARRASOT_F_RATIO) = of_bits(0x3c800000u);
     }
 }
 
@@ -216,9 +219,10 @@ static void damaged(const struct mearrasot_page *p) {
         words[below(MEARRASOT_WORDS * n)] ^= 1u << below(32);
     } else {
         uint32_t at = below(MEARRASOT_NUMBERS * n);
-        memcpy(&bit, numbers + at, 4);
+        float *x = number(at / MEARRASOT_NUMBERS, at % MEARRASOT_NUMBERS);
+        memcpy(&bit, x, 4);
         bit = change == 1 ? bit ^ 1u << below(32) : draw();
-        memcpy(numbers + at, &bit, 4);
+        memcpy(x, &bit, 4);
     }
     put_all(mearrasot_layout_page(p, q));
     put_all(mearrasot_relayout(words, MEARRASOT_WORDS * n - below(2), numbers, MEARRASOT_NUMBERS * n, rows,

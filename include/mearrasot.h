@@ -23,8 +23,8 @@ extern "C" {
  * kept to them must change, the second if something is new, the third else. It
  * is not in the archive: take header and archive from the same commit.
  */
-#define MEARRASOT_VERSION_MAJOR 1
-#define MEARRASOT_VERSION_MINOR 2
+#define MEARRASOT_VERSION_MAJOR 2
+#define MEARRASOT_VERSION_MINOR 0
 #define MEARRASOT_VERSION_PATCH 0
 
 /* ---- Limits ---- */
@@ -104,9 +104,19 @@ extern "C" {
 #define MEARRASOT_FRACTION 2u
 
 /*
- * numbers, 27 for each node. Fields 0 to 21 have a unit; the number of a field
- * that is auto is not used, but has to be in range. Pixels are at most 65,536,
- * fractions at most 1; only margins and insets may be negative.
+ * numbers, 27 for each node, field by field: all widths, then all heights, and
+ * so on, 27 planes of as many numbers as there are nodes. Words, rows and marks
+ * stand node by node. (Up to version 1 the numbers did too.)
+ *
+ * numbers[MEARRASOT_NUMBER(nodes, node, field)] is a field of a node, of a page
+ * of so many nodes. The order of the numbers is known here and nowhere else.
+ */
+#define MEARRASOT_NUMBER(nodes, node, field) ((size_t)(nodes) * (size_t)(field) + (size_t)(node))
+
+/*
+ * Fields 0 to 21 have a unit; the number of a field that is auto is not used,
+ * but has to be in range. Pixels are at most 65,536, fractions at most 1; only
+ * margins and insets may be negative.
  */
 enum mearrasot_field {
     MEARRASOT_F_WIDTH = 0,

@@ -71,6 +71,20 @@ struct mearrasot_builder {
 
 /* ---- Building ---- */
 
+/* How long a plane of numbers is: as the room while a node is open, as the page when all are closed. */
+static inline size_t mearrasot_plane(const struct mearrasot_builder *b) {
+    return b->depth > 0u ? b->room : b->nodes;
+}
+
+/* Brings the planes of a page that is complete together. Each moves down, the first stays. */
+static inline void mearrasot_pack(struct mearrasot_builder *b) {
+    size_t f;
+    for (f = 1; f < MEARRASOT_NUMBERS && b->nodes < b->room; f++) {
+        memmove(b->numbers + MEARRASOT_NUMBER(b->nodes, 0, f), b->numbers + MEARRASOT_NUMBER(b->room, 0, f),
+                b->nodes * sizeof *b->numbers);
+    }
+}
+
 /* Starts a page anew, in the same memory. */
 static inline void mearrasot_begin(struct mearrasot_builder *b) {
     b->nodes = b->depth = b->fault = b->laid = b->relaid = b->edited = b->overflowed = 0u;
@@ -115,7 +129,7 @@ static inline uint32_t mearrasot_open(struct mearrasot_builder *b, uint32_t styl
     if (b->fault != MEARRASOT_FAULT_NONE) {
         return MEARRASOT_NO_NODE;
     }
-    mearrasot_node(b->words, b->numbers, node, 0u, style);
+    mearrasot_node(b->words, b->numbers, b->room, node, 0u, style);
     b->open[b->depth++] = node;
     b->nodes++;
     return node;
@@ -129,6 +143,9 @@ static inline void mearrasot_close(struct mearrasot_builder *b) {
     }
     node = b->open[--b->depth];
     b->words[MEARRASOT_WORDS * node] = b->nodes - node;
+    if (b->depth == 0u) {
+        mearrasot_pack(b);
+    }
 }
 
 /* ---- Setters: of any node of the page, while it is built or after ---- */
@@ -168,7 +185,7 @@ static inline int mearrasot_there(struct mearrasot_builder *b, uint32_t node) {
 static inline void mearrasot_put_number(struct mearrasot_builder *b, uint32_t node, unsigned field, float value) {
     float *x;
     if (mearrasot_there(b, node)) {
-        x = b->numbers + MEARRASOT_NUMBERS * node + field;
+        x = b->numbers + MEARRASOT_NUMBER(mearrasot_plane(b), node, field);
         if (mearrasot_bits(*x) != mearrasot_bits(value)) {
             *x = value;
             mearrasot_note(b, node);

@@ -34,40 +34,41 @@ extern "C" {
 /* Where a field's unit stands in words 2 (lower half) and 3 (upper half). */
 #define MEARRASOT_UNIT_AT(field) ((field) < 14 ? 2 * (field) : 4 + 2 * (field))
 
+/* nodes is how many the page has: the numbers stand in planes of that many. */
+
 /*
  * A node with size nodes in its subtree and that style. Sizes, limits and
  * insets are auto, margins, padding and border 0 pixels, all else is 0.
  */
-static inline void mearrasot_node(uint32_t *words, float *numbers, size_t node,
-                                  uint32_t size, uint32_t style) {
+static inline void mearrasot_node(uint32_t *words, float *numbers, size_t nodes,
+                                  size_t node, uint32_t size, uint32_t style) {
     uint32_t *w = words + MEARRASOT_WORDS * node;
-    float *x = numbers + MEARRASOT_NUMBERS * node;
     size_t f;
     w[0] = size;
     w[1] = style;
     w[2] = (uint32_t)(MEARRASOT_USUAL_UNITS & 0xffffffffu);
     w[3] = (uint32_t)(MEARRASOT_USUAL_UNITS >> 32);
     for (f = 0; f < MEARRASOT_NUMBERS; f++) {
-        x[f] = 0.0f;
+        numbers[MEARRASOT_NUMBER(nodes, node, f)] = 0.0f;
     }
 }
 
 /* One of the fields 0 to 21 with its unit. */
-static inline void mearrasot_set(uint32_t *words, float *numbers, size_t node,
-                                 unsigned field, uint32_t unit, float value) {
+static inline void mearrasot_set(uint32_t *words, float *numbers, size_t nodes,
+                                 size_t node, unsigned field, uint32_t unit,
+                                 float value) {
     uint32_t *w = words + MEARRASOT_WORDS * node + (field < 14u ? 2 : 3);
     unsigned at = MEARRASOT_UNIT_AT(field) & 31u;
     *w = (*w & ~((uint32_t)3u << at)) | (unit << at);
-    numbers[MEARRASOT_NUMBERS * node + field] = value;
+    numbers[MEARRASOT_NUMBER(nodes, node, field)] = value;
 }
 
 /* What a leaf measures: narrowest and widest width, and height. */
-static inline void mearrasot_measure(float *numbers, size_t node, float least,
-                                     float most, float height) {
-    float *x = numbers + MEARRASOT_NUMBERS * node;
-    x[MEARRASOT_F_LEAF_MIN] = least;
-    x[MEARRASOT_F_LEAF_MAX] = most;
-    x[MEARRASOT_F_LEAF_HEIGHT] = height;
+static inline void mearrasot_measure(float *numbers, size_t nodes, size_t node,
+                                     float least, float most, float height) {
+    numbers[MEARRASOT_NUMBER(nodes, node, MEARRASOT_F_LEAF_MIN)] = least;
+    numbers[MEARRASOT_NUMBER(nodes, node, MEARRASOT_F_LEAF_MAX)] = most;
+    numbers[MEARRASOT_NUMBER(nodes, node, MEARRASOT_F_LEAF_HEIGHT)] = height;
 }
 
 /* ---- Tables in flash ---- */
@@ -77,13 +78,14 @@ static inline void mearrasot_measure(float *numbers, size_t node, float least,
  *     MEARRASOT_WORDS_OF(2, MEARRASOT_BLOCK, MEARRASOT_UNIT(MEARRASOT_F_WIDTH, MEARRASOT_PIXELS)),
  *     MEARRASOT_WORDS_OF(1, MEARRASOT_LEAF, 0)
  * };
- * static const float numbers[] = {
- *     MEARRASOT_NUMBERS_OF(MEARRASOT_SIZES(240, 0, 0, 0, 0, 0), MEARRASOT_ALL(0), MEARRASOT_ALL(4),
- *                          MEARRASOT_ALL(0), MEARRASOT_ALL(0), 0, 0, MEARRASOT_LEAF_OF(0, 0, 0)),
- *     MEARRASOT_NUMBERS_OF_LEAF(40, 120, 12)
- * };
+ * #define NUMBERS(node, f) \
+ *     node(f, MEARRASOT_NUMBERS_OF(MEARRASOT_SIZES(240, 0, 0, 0, 0, 0), MEARRASOT_ALL(0), MEARRASOT_ALL(4), \
+ *                                  MEARRASOT_ALL(0), MEARRASOT_ALL(0), 0, 0, MEARRASOT_LEAF_OF(0, 0, 0))) \
+ *     node(f, MEARRASOT_NUMBERS_OF_LEAF(40, 120, 12))
+ * static const float numbers[] = {MEARRASOT_PLANES(NUMBERS)};
  *
  * units joins, by |, a MEARRASOT_UNIT for each field whose unit is not the usual.
+ * NUMBERS is written node by node and read 27 times, once for each plane.
  */
 #define MEARRASOT_UNIT(field, unit) \
     (((MEARRASOT_USUAL_UNITS >> MEARRASOT_UNIT_AT(field) & 3u) ^ (uint64_t)(unit)) << MEARRASOT_UNIT_AT(field))
@@ -102,6 +104,45 @@ static inline void mearrasot_measure(float *numbers, size_t node, float least,
     MEARRASOT_NUMBERS_OF(MEARRASOT_SIZES(0, 0, 0, 0, 0, 0), MEARRASOT_ALL(0), MEARRASOT_ALL(0), \
                          MEARRASOT_ALL(0), MEARRASOT_ALL(0), 0, 0, MEARRASOT_LEAF_OF(least, most, height))
 #define MEARRASOT_NUMBERS_OF_BLOCK MEARRASOT_NUMBERS_OF_LEAF(0, 0, 0)
+#define MEARRASOT_PLANES(page) \
+    page(MEARRASOT_NODE_, 0) page(MEARRASOT_NODE_, 1) page(MEARRASOT_NODE_, 2) \
+    page(MEARRASOT_NODE_, 3) page(MEARRASOT_NODE_, 4) page(MEARRASOT_NODE_, 5) \
+    page(MEARRASOT_NODE_, 6) page(MEARRASOT_NODE_, 7) page(MEARRASOT_NODE_, 8) \
+    page(MEARRASOT_NODE_, 9) page(MEARRASOT_NODE_, 10) page(MEARRASOT_NODE_, 11) \
+    page(MEARRASOT_NODE_, 12) page(MEARRASOT_NODE_, 13) page(MEARRASOT_NODE_, 14) \
+    page(MEARRASOT_NODE_, 15) page(MEARRASOT_NODE_, 16) page(MEARRASOT_NODE_, 17) \
+    page(MEARRASOT_NODE_, 18) page(MEARRASOT_NODE_, 19) page(MEARRASOT_NODE_, 20) \
+    page(MEARRASOT_NODE_, 21) page(MEARRASOT_NODE_, 22) page(MEARRASOT_NODE_, 23) \
+    page(MEARRASOT_NODE_, 24) page(MEARRASOT_NODE_, 25) page(MEARRASOT_NODE_, 26)
+/* Of a node's 27 numbers that of field f; the 0 is for C99, where dots stand for something. */
+#define MEARRASOT_NODE_(f, ...) MEARRASOT_PICK_##f##_(__VA_ARGS__, 0)
+#define MEARRASOT_PICK_0_(x, ...) x,
+#define MEARRASOT_PICK_1_(x, ...) MEARRASOT_PICK_0_(__VA_ARGS__)
+#define MEARRASOT_PICK_2_(x, ...) MEARRASOT_PICK_1_(__VA_ARGS__)
+#define MEARRASOT_PICK_3_(x, ...) MEARRASOT_PICK_2_(__VA_ARGS__)
+#define MEARRASOT_PICK_4_(x, ...) MEARRASOT_PICK_3_(__VA_ARGS__)
+#define MEARRASOT_PICK_5_(x, ...) MEARRASOT_PICK_4_(__VA_ARGS__)
+#define MEARRASOT_PICK_6_(x, ...) MEARRASOT_PICK_5_(__VA_ARGS__)
+#define MEARRASOT_PICK_7_(x, ...) MEARRASOT_PICK_6_(__VA_ARGS__)
+#define MEARRASOT_PICK_8_(x, ...) MEARRASOT_PICK_7_(__VA_ARGS__)
+#define MEARRASOT_PICK_9_(x, ...) MEARRASOT_PICK_8_(__VA_ARGS__)
+#define MEARRASOT_PICK_10_(x, ...) MEARRASOT_PICK_9_(__VA_ARGS__)
+#define MEARRASOT_PICK_11_(x, ...) MEARRASOT_PICK_10_(__VA_ARGS__)
+#define MEARRASOT_PICK_12_(x, ...) MEARRASOT_PICK_11_(__VA_ARGS__)
+#define MEARRASOT_PICK_13_(x, ...) MEARRASOT_PICK_12_(__VA_ARGS__)
+#define MEARRASOT_PICK_14_(x, ...) MEARRASOT_PICK_13_(__VA_ARGS__)
+#define MEARRASOT_PICK_15_(x, ...) MEARRASOT_PICK_14_(__VA_ARGS__)
+#define MEARRASOT_PICK_16_(x, ...) MEARRASOT_PICK_15_(__VA_ARGS__)
+#define MEARRASOT_PICK_17_(x, ...) MEARRASOT_PICK_16_(__VA_ARGS__)
+#define MEARRASOT_PICK_18_(x, ...) MEARRASOT_PICK_17_(__VA_ARGS__)
+#define MEARRASOT_PICK_19_(x, ...) MEARRASOT_PICK_18_(__VA_ARGS__)
+#define MEARRASOT_PICK_20_(x, ...) MEARRASOT_PICK_19_(__VA_ARGS__)
+#define MEARRASOT_PICK_21_(x, ...) MEARRASOT_PICK_20_(__VA_ARGS__)
+#define MEARRASOT_PICK_22_(x, ...) MEARRASOT_PICK_21_(__VA_ARGS__)
+#define MEARRASOT_PICK_23_(x, ...) MEARRASOT_PICK_22_(__VA_ARGS__)
+#define MEARRASOT_PICK_24_(x, ...) MEARRASOT_PICK_23_(__VA_ARGS__)
+#define MEARRASOT_PICK_25_(x, ...) MEARRASOT_PICK_24_(__VA_ARGS__)
+#define MEARRASOT_PICK_26_(x, ...) MEARRASOT_PICK_25_(__VA_ARGS__)
 
 /* ---- The calls, with a struct for the tables ---- */
 
@@ -209,6 +250,22 @@ static inline uint64_t mearrasot_index_page(const struct mearrasot_page *p,
         MEARRASOT_SLICE(l->tops, l->count, number),
         MEARRASOT_SLICE(l->bottoms, l->count, number),
         MEARRASOT_SLICE(l->running, l->count, number));
+}
+
+/* ---- A part of a page ---- */
+
+/*
+ * The numbers of a subtree of size nodes as a table of their own. Its words are
+ * a run of the page's words, from the node on; its numbers are a run of each
+ * plane, and have to be copied.
+ */
+static inline void mearrasot_cut_numbers(float *to, const struct mearrasot_page *p, size_t node, size_t size) {
+    size_t f, i;
+    for (f = 0; f < MEARRASOT_NUMBERS; f++) {
+        for (i = 0; i < size; i++) {
+            to[MEARRASOT_NUMBER(size, i, f)] = p->numbers[MEARRASOT_NUMBER(p->nodes, node + i, f)];
+        }
+    }
 }
 
 /* ---- Reading a page that is laid out ---- */

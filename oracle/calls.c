@@ -3,7 +3,8 @@
  * the pipe is 32-bit words, the lowest byte first.
  *
  * A call:    0 for a layout or 1 for a size, the count of nodes, how, the four
- *            numbers of the question, then the node words and the node numbers.
+ *            numbers of the question, then the node words and the node numbers,
+ *            both node by node.
  * An answer: its number and its place. If the number is 0, there follow for a
  *            layout each node's row and marks, then each candidate's pair and
  *            triple; for a size its two numbers.
@@ -40,6 +41,18 @@ static void take(void *to, size_t count) {
     if (fread(to, 4, count, stdin) != count) {
         fprintf(stderr, "calls: the call is cut short\n");
         exit(1);
+    }
+}
+
+/* The numbers come node by node, and are lent field by field. */
+static void take_numbers(size_t nodes) {
+    float one[MEARRASOT_NUMBERS];
+    size_t i, f;
+    for (i = 0; i < nodes; i++) {
+        take(one, MEARRASOT_NUMBERS);
+        for (f = 0; f < MEARRASOT_NUMBERS; f++) {
+            numbers[MEARRASOT_NUMBER(nodes, i, f)] = one[f];
+        }
     }
 }
 
@@ -94,7 +107,7 @@ int main(void) {
         }
         page.nodes = page.records = head.nodes;
         take(words, MEARRASOT_WORDS * page.nodes);
-        take(numbers, MEARRASOT_NUMBERS * page.nodes);
+        take_numbers(page.nodes);
         question.known_width = head.known_width;
         question.known_height = head.known_height;
         question.parent_width = head.parent_width;

@@ -140,6 +140,17 @@ static int read_part(const char *key, struct list *lists) {
     return 0;
 }
 
+/* The file has numbers node by node; they are lent field by field. What is past the last whole node stays. */
+static void by_field(struct list *l) {
+    static uint32_t by_node[AREA / 4];
+    const size_t nodes = l->count / MEARRASOT_NUMBERS;
+    size_t k;
+    memcpy(by_node, l->bits, sizeof by_node);
+    for (k = 0; k < MEARRASOT_NUMBERS * nodes; k++) {
+        l->bits[MEARRASOT_NUMBER(nodes, k / MEARRASOT_NUMBERS, k % MEARRASOT_NUMBERS)] = by_node[k];
+    }
+}
+
 static char *next_key(void) {
     char *key;
     do {
@@ -190,6 +201,7 @@ static int read_call(void) {
             stop("an unknown line");
         }
     }
+    by_field(&given[NUMBERS]);
     return 1;
 }
 

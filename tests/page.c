@@ -79,11 +79,11 @@ static void test_building(void) {
 static void field_is(unsigned field, uint32_t unit, float value, const char *name, int line) {
     uint32_t expected_words[MEARRASOT_WORDS];
     float expected[MEARRASOT_NUMBERS];
-    mearrasot_node(expected_words, expected, 0, 1, MEARRASOT_BLOCK);
-    mearrasot_set(expected_words, expected, 0, field, unit, value);
+    mearrasot_node(expected_words, expected, 1, 0, 1, MEARRASOT_BLOCK);
+    mearrasot_set(expected_words, expected, 1, 0, field, unit, value);
     check(memcmp(expected_words, page_words, sizeof expected_words) == 0 &&
           memcmp(expected, page_numbers, sizeof expected) == 0, name, __FILE__, line);
-    mearrasot_node(page_words, page_numbers, 0, 1, MEARRASOT_BLOCK);
+    mearrasot_node(page_words, page_numbers, 1, 0, 1, MEARRASOT_BLOCK);
 }
 #define FIELD(name, field) \
     mearrasot_##name##_px(&page, 0, 3); \
@@ -118,6 +118,10 @@ static void test_fields(void) {
     CHECK(page.fault == MEARRASOT_FAULT_NONE);
 }
 
+static float number(uint32_t node, unsigned field) {
+    return page_numbers[MEARRASOT_NUMBER(page.nodes, node, field)];
+}
+
 /* One setter of each kind does what its name says, and is noted once. */
 static void test_setters(void) {
     const struct mearrasot_question q = mearrasot_screen(240);
@@ -128,11 +132,11 @@ static void test_setters(void) {
     mearrasot_width_px(&page, TEXT, 60);
     CHECK(page.edited == 1 && (page_words[4 * TEXT + 2] & 3u) == MEARRASOT_PIXELS);
     mearrasot_width_auto(&page, TEXT);
-    CHECK((page_words[4 * TEXT + 2] & 3u) == MEARRASOT_AUTO && page_numbers[27 * TEXT] == 0);
+    CHECK((page_words[4 * TEXT + 2] & 3u) == MEARRASOT_AUTO && number(TEXT, 0) == 0);
     mearrasot_inset_left_part(&page, FOOT, -0.25f);
-    CHECK(page_words[4 * FOOT + 3] == (0x55u | MEARRASOT_FRACTION << 14) && page_numbers[27 * FOOT + 21] == -0.25f);
+    CHECK(page_words[4 * FOOT + 3] == (0x55u | MEARRASOT_FRACTION << 14) && number(FOOT, 21) == -0.25f);
     mearrasot_border_px(&page, HEAD, 2);
-    CHECK(page_words[4 * HEAD + 3] == 0x55u && page_numbers[27 * HEAD + 14] == 2 && page_numbers[27 * HEAD + 17] == 2);
+    CHECK(page_words[4 * HEAD + 3] == 0x55u && number(HEAD, 14) == 2 && number(HEAD, 17) == 2);
     mearrasot_ratio(&page, IMPORT, 2);
     mearrasot_scrollbar(&page, IMPORT, 6);
     mearrasot_max_height_px(&page, EXPORT, 40);
@@ -140,8 +144,8 @@ static void test_setters(void) {
     mearrasot_min_width_part(&page, EXPORT, 0.5f);
     mearrasot_max_width_px(&page, EXPORT, 200);
     mearrasot_height_px(&page, EXPORT, 12);
-    CHECK(page_numbers[27 * EXPORT + 1] == 12 && page_numbers[27 * EXPORT + 3] == 4 && page_numbers[27 * EXPORT + 5] == 40);
-    CHECK(page_numbers[27 * IMPORT + 22] == 2 && page_numbers[27 * IMPORT + 23] == 6);
+    CHECK(number(EXPORT, 1) == 12 && number(EXPORT, 3) == 4 && number(EXPORT, 5) == 40);
+    CHECK(number(IMPORT, 22) == 2 && number(IMPORT, 23) == 6);
     mearrasot_overflow_x(&page, IMPORT, MEARRASOT_X_SCROLL);
     mearrasot_overflow_y(&page, IMPORT, MEARRASOT_Y_HIDDEN);
     mearrasot_direction(&page, IMPORT, MEARRASOT_RTL);
@@ -200,6 +204,25 @@ static void test_many_edits(void) {
         IS(mearrasot_lay(&large, q), MEARRASOT_DONE, 0);
         CHECK(large.relaid == (count == 64) && large.edited == 0 && !large.overflowed);
         CHECK(large_rows[MEARRASOT_R_HEIGHT] == (float)(count * count + 3 * (99 - count)));
+    }
+}
+
+/* Fields set before the root is closed and after stand in planes of the page's own length. */
+static void test_planes(void) {
+    uint32_t n;
+    mearrasot_begin(&large);
+    mearrasot_open(&large, MEARRASOT_BLOCK);
+    for (n = 1; n < 5; n++) {
+        mearrasot_leaf(&large, (float)n, (float)(10 * n), 3);
+        mearrasot_margin_top_px(&large, n - 1, (float)n);
+    }
+    CHECK(large_numbers[MEARRASOT_NUMBER(MEARRASOT_MAX_NODES, 4, 25)] == 40);
+    mearrasot_close(&large);
+    mearrasot_margin_left_px(&large, 4, 7);
+    for (n = 1; n < 5; n++) {
+        CHECK(large_numbers[5 * 24 + n] == (float)n && large_numbers[5 * 25 + n] == (float)(10 * n));
+        CHECK(large_numbers[5 * 26 + n] == 3 && large_numbers[5 * 6 + n - 1] == (float)n);
+        CHECK(large_numbers[5 * 9 + n] == (n == 4 ? 7 : 0) && large_numbers[n] == 0);
     }
 }
 
@@ -286,6 +309,7 @@ int main(void) {
     test_building();
     test_setters();
     test_many_edits();
+    test_planes();
     test_too_large();
     test_faults();
     return report("page");

@@ -21,16 +21,16 @@ static const uint32_t flash_words[] = {
                            MEARRASOT_UNIT(MEARRASOT_F_MARGIN + MEARRASOT_LEFT, MEARRASOT_AUTO) |
                            MEARRASOT_UNIT(MEARRASOT_F_INSET + MEARRASOT_TOP, MEARRASOT_PIXELS))
 };
-static const float flash_numbers[] = {
-    MEARRASOT_NUMBERS_OF(MEARRASOT_SIZES(0, 0, 0, 0, 0, 0), MEARRASOT_ALL(0), MEARRASOT_SIDES(1, 2, 3, 4),
-                         MEARRASOT_ALL(0), MEARRASOT_ALL(0), 0, 0, MEARRASOT_LEAF_OF(0, 0, 0)),
-    MEARRASOT_NUMBERS_OF_BLOCK,
-    MEARRASOT_NUMBERS_OF_LEAF(10, 50, 7),
-    MEARRASOT_NUMBERS_OF_LEAF(10, 50, 0),
-    MEARRASOT_NUMBERS_OF_LEAF(10, 50, 5),
-    MEARRASOT_NUMBERS_OF(MEARRASOT_SIZES(0.5, 0, 0, 0, 0, 0), MEARRASOT_ALL(0), MEARRASOT_ALL(0),
-                         MEARRASOT_ALL(0), MEARRASOT_SIDES(2, 0, 0, 0), 0, 0, MEARRASOT_LEAF_OF(10, 50, 9))
-};
+#define FLASH(node, f) \
+    node(f, MEARRASOT_NUMBERS_OF(MEARRASOT_SIZES(0, 0, 0, 0, 0, 0), MEARRASOT_ALL(0), MEARRASOT_SIDES(1, 2, 3, 4), \
+                                 MEARRASOT_ALL(0), MEARRASOT_ALL(0), 0, 0, MEARRASOT_LEAF_OF(0, 0, 0))) \
+    node(f, MEARRASOT_NUMBERS_OF_BLOCK) \
+    node(f, MEARRASOT_NUMBERS_OF_LEAF(10, 50, 7)) \
+    node(f, MEARRASOT_NUMBERS_OF_LEAF(10, 50, 0)) \
+    node(f, MEARRASOT_NUMBERS_OF_LEAF(10, 50, 5)) \
+    node(f, MEARRASOT_NUMBERS_OF(MEARRASOT_SIZES(0.5, 0, 0, 0, 0, 0), MEARRASOT_ALL(0), MEARRASOT_ALL(0), \
+                                 MEARRASOT_ALL(0), MEARRASOT_SIDES(2, 0, 0, 0), 0, 0, MEARRASOT_LEAF_OF(10, 50, 9)))
+static const float flash_numbers[] = {MEARRASOT_PLANES(FLASH)};
 
 /* The same by hand, in memory that may be damaged. */
 static uint32_t words[MEARRASOT_WORDS * NODES];
@@ -109,12 +109,12 @@ static void test_tables_refused(void) {
     REFUSED(MEARRASOT_CODES, 0, q);
     words[MEARRASOT_WORDS * 3 + 1] |= 1u << 18;
     REFUSED(MEARRASOT_CODES, 3, q);
-    mearrasot_set(words, numbers, 5, MEARRASOT_F_PADDING, MEARRASOT_AUTO, 0);
+    mearrasot_set(words, numbers, NODES, 5, MEARRASOT_F_PADDING, MEARRASOT_AUTO, 0);
     REFUSED(MEARRASOT_CODES, 5, q);
-    mearrasot_set(words, numbers, 5, MEARRASOT_F_HEIGHT, MEARRASOT_FRACTION, 0.5f);
-    numbers[MEARRASOT_NUMBERS * 5 + MEARRASOT_F_RATIO] = 1;
+    mearrasot_set(words, numbers, NODES, 5, MEARRASOT_F_HEIGHT, MEARRASOT_FRACTION, 0.5f);
+    numbers[MEARRASOT_NUMBER(NODES, 5, MEARRASOT_F_RATIO)] = 1;
     REFUSED(MEARRASOT_CODES, 5, q);
-    numbers[MEARRASOT_NUMBERS * 2 + MEARRASOT_F_LEAF_MAX] = 5; /* below the narrowest */
+    numbers[MEARRASOT_NUMBER(NODES, 2, MEARRASOT_F_LEAF_MAX)] = 5; /* below the narrowest */
     REFUSED(MEARRASOT_BAD_NUMBER, 2, q);
     bad.known_width = -1;
     REFUSED(MEARRASOT_BAD_NUMBER, NODES, bad);
@@ -151,10 +151,10 @@ static void test_too_large(void) {
     struct mearrasot_page p = {257, many, tall, rows, marks, 0, NULL, NULL};
     float size[2];
     size_t k;
-    mearrasot_node(many, tall, 0, 257, MEARRASOT_BLOCK);
+    mearrasot_node(many, tall, 257, 0, 257, MEARRASOT_BLOCK);
     for (k = 1; k < 257; k++) {
-        mearrasot_node(many, tall, k, 1, MEARRASOT_LEAF);
-        mearrasot_measure(tall, k, 0, 0, 65536);
+        mearrasot_node(many, tall, 257, k, 1, MEARRASOT_LEAF);
+        mearrasot_measure(tall, 257, k, 0, 0, 65536);
     }
     rows[5] = 5;
     marks[5] = 5;
@@ -162,7 +162,7 @@ static void test_too_large(void) {
     CHECK(rows[5] == 0 && marks[5] == 0);
     IS(mearrasot_size_page(&p, size, mearrasot_screen(100)), MEARRASOT_TOO_LARGE, 0);
     IS(mearrasot_relayout_page(&p, NULL, 0, mearrasot_screen(100)), MEARRASOT_NOT_LAID, 0);
-    tall[MEARRASOT_NUMBERS * 256 + MEARRASOT_F_LEAF_HEIGHT] = 65535;
+    tall[MEARRASOT_NUMBER(257, 256, MEARRASOT_F_LEAF_HEIGHT)] = 65535;
     IS(mearrasot_layout_page(&p, mearrasot_screen(100)), MEARRASOT_DONE, 0);
     CHECK(rows[MEARRASOT_R_HEIGHT] == 16777215.0f);
 }
@@ -209,12 +209,14 @@ static void test_index(void) {
 /* The tables in flash are those that the helpers make. */
 static void test_flash(void) {
     struct mearrasot_page p = page_in(&now);
-    mearrasot_node(words, numbers, 5, 1, MEARRASOT_LEAF | MEARRASOT_RELATIVE);
-    mearrasot_measure(numbers, 5, 10, 50, 9);
-    mearrasot_set(words, numbers, 5, MEARRASOT_F_WIDTH, MEARRASOT_FRACTION, 0.5f);
-    mearrasot_set(words, numbers, 5, MEARRASOT_F_MARGIN + MEARRASOT_LEFT, MEARRASOT_AUTO, 0);
-    mearrasot_set(words, numbers, 5, MEARRASOT_F_INSET + MEARRASOT_TOP, MEARRASOT_PIXELS, 2);
-    CHECK(memcmp(words + 20, flash_words + 20, 16) == 0 && memcmp(numbers + 135, flash_numbers + 135, 108) == 0);
+    mearrasot_node(words, numbers, NODES, 5, 1, MEARRASOT_LEAF | MEARRASOT_RELATIVE);
+    mearrasot_measure(numbers, NODES, 5, 10, 50, 9);
+    mearrasot_set(words, numbers, NODES, 5, MEARRASOT_F_WIDTH, MEARRASOT_FRACTION, 0.5f);
+    mearrasot_set(words, numbers, NODES, 5, MEARRASOT_F_MARGIN + MEARRASOT_LEFT, MEARRASOT_AUTO, 0);
+    mearrasot_set(words, numbers, NODES, 5, MEARRASOT_F_INSET + MEARRASOT_TOP, MEARRASOT_PIXELS, 2);
+    CHECK(memcmp(words, flash_words, sizeof words) == 0 && memcmp(numbers, flash_numbers, sizeof numbers) == 0);
+    CHECK(numbers[0] == 0 && numbers[5] == 0.5f && numbers[60] == 1 && numbers[66] == 2 && numbers[72] == 3);
+    CHECK(numbers[113] == 2 && numbers[144] == 0 && numbers[146] == 10 && numbers[158] == 7 && numbers[161] == 9);
     p.words = flash_words;
     p.numbers = flash_numbers;
     IS(mearrasot_layout_page(&p, mearrasot_screen(100)), MEARRASOT_DONE, 1);
@@ -223,7 +225,23 @@ static void test_flash(void) {
     CHECK(sizeof now.rows == MEARRASOT_ROWS_BYTES(NODES) && sizeof now.marks == MEARRASOT_MARKS_BYTES(NODES));
     CHECK(sizeof now.pairs == MEARRASOT_PAIRS_BYTES(RECORDS) && sizeof now.triples == MEARRASOT_TRIPLES_BYTES(RECORDS));
     CHECK(MEARRASOT_PAGE_BYTES(1024u, 0u) == 200704 && MEARRASOT_WRITTEN_BYTES(NODES, RECORDS) == sizeof now);
-    CHECK(MEARRASOT_VERSION_MAJOR == 1);
+    CHECK(MEARRASOT_VERSION_MAJOR == 2);
+}
+
+/* The head is a page of its own: its numbers are a run of each plane. */
+static void test_cut(void) {
+    struct mearrasot_page p = page_in(&now);
+    float cut[MEARRASOT_NUMBERS * 3];
+    unsigned f;
+    mearrasot_cut_numbers(cut, &p, 1, 3);
+    for (f = 0; f < MEARRASOT_NUMBERS; f++) {
+        CHECK(memcmp(cut + 3 * f, numbers + NODES * f + 1, sizeof cut / MEARRASOT_NUMBERS) == 0);
+    }
+    p.nodes = 3;
+    p.words += MEARRASOT_WORDS;
+    p.numbers = cut;
+    IS(mearrasot_layout_page(&p, mearrasot_screen(100)), MEARRASOT_DONE, 0);
+    CHECK(now.rows[MEARRASOT_R_HEIGHT] == 7);
 }
 
 static void test_reading(void) {
@@ -259,6 +277,7 @@ int main(void) {
     test_index();
     lay();
     test_flash();
+    test_cut();
     test_reading();
     return report("tables");
 }

@@ -34,7 +34,7 @@ struct result {
 static struct result screen, afresh;
 
 static void pixels(enum node node, unsigned field, float value) {
-    mearrasot_set(words, numbers, node, field, MEARRASOT_PIXELS, value);
+    mearrasot_set(words, numbers, NODES, node, field, MEARRASOT_PIXELS, value);
 }
 
 static void all_sides(enum node node, unsigned field, float value) {
@@ -45,12 +45,12 @@ static void all_sides(enum node node, unsigned field, float value) {
 }
 
 static void leaf(enum node node, float least, float most, float height) {
-    mearrasot_node(words, numbers, node, 1, MEARRASOT_LEAF);
-    mearrasot_measure(numbers, node, least, most, height);
+    mearrasot_node(words, numbers, NODES, node, 1, MEARRASOT_LEAF);
+    mearrasot_measure(numbers, NODES, node, least, most, height);
 }
 
 static void block(enum node node, uint32_t size) {
-    mearrasot_node(words, numbers, node, size, MEARRASOT_BLOCK);
+    mearrasot_node(words, numbers, NODES, node, size, MEARRASOT_BLOCK);
 }
 
 static void fill_page(void) {
@@ -72,10 +72,10 @@ static void fill_page(void) {
     block(EXPORT, 2);
     pixels(EXPORT, MEARRASOT_F_MARGIN + MEARRASOT_TOP, 5);
     leaf(EXPORT_LINE, 80, 160, 14);
-    mearrasot_node(words, numbers, LAMP, 1, MEARRASOT_LEAF | MEARRASOT_OUT_OF_FLOW);
+    mearrasot_node(words, numbers, NODES, LAMP, 1, MEARRASOT_LEAF | MEARRASOT_OUT_OF_FLOW);
     leaf(FOOT, 50, 90, 10);
-    mearrasot_set(words, numbers, FOOT, MEARRASOT_F_MARGIN + MEARRASOT_LEFT, MEARRASOT_AUTO, 0);
-    mearrasot_set(words, numbers, FOOT, MEARRASOT_F_WIDTH, MEARRASOT_FRACTION, 0.5f);
+    mearrasot_set(words, numbers, NODES, FOOT, MEARRASOT_F_MARGIN + MEARRASOT_LEFT, MEARRASOT_AUTO, 0);
+    mearrasot_set(words, numbers, NODES, FOOT, MEARRASOT_F_WIDTH, MEARRASOT_FRACTION, 0.5f);
 }
 
 static struct mearrasot_page page(struct result *r) {
@@ -131,7 +131,7 @@ int main(void) {
     first = mearrasot_layout_page(&on_screen, ask());
     print("layout", first, &screen);
 
-    mearrasot_measure(numbers, TEXT, 60, 200, 36); /* a longer notice */
+    mearrasot_measure(numbers, NODES, TEXT, 60, 200, 36); /* a longer notice */
     again = mearrasot_relayout_page(&on_screen, edits, 1, ask());
     print("relayout after the edit", again, &screen);
 
@@ -146,7 +146,7 @@ int main(void) {
     sized = mearrasot_size_page(&on_screen, size, ask());
     printf("size alone: answer %u, %.1f x %.1f\n", (unsigned)mearrasot_number(sized), size[0], size[1]);
 
-    numbers[MEARRASOT_NUMBERS * TEXT + MEARRASOT_F_LEAF_HEIGHT] = 70000; /* over 65,536 */
+    numbers[MEARRASOT_NUMBER(NODES, TEXT, MEARRASOT_F_LEAF_HEIGHT)] = 70000; /* over 65,536 */
     again = mearrasot_relayout_page(&on_screen, edits, 1, ask());
     print("with a number out of range", again, &screen);
     if (memcmp(&screen, &afresh, sizeof screen) != 0) {

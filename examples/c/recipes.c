@@ -48,11 +48,11 @@ static void wrapping(void) {
     print("below it", below);
 }
 
-/* A panel out of the flow, with content: it is a page of its own, from its run of the tables. */
+/* A panel out of the flow, with content: it is a page of its own, from its run of the words and its numbers cut out. */
 static void candidate(void) {
-    static float rows[MEARRASOT_ROW * 3];
+    static float numbers[MEARRASOT_NUMBERS * 3], rows[MEARRASOT_ROW * 3];
     static uint32_t marks[MEARRASOT_MARKS * 3];
-    struct mearrasot_page p, panel = {3, NULL, NULL, rows, marks, 0, NULL, NULL};
+    struct mearrasot_page p, panel = {3, NULL, numbers, rows, marks, 0, NULL, NULL};
     struct mearrasot_question q;
     uint64_t answer;
     uint32_t node;
@@ -73,7 +73,7 @@ static void candidate(void) {
     printf("  node %u may stand from %g to %g at %g\n", (unsigned)p.pairs[MEARRASOT_P_NODE], at[MEARRASOT_T_START],
            at[MEARRASOT_T_END], at[MEARRASOT_T_LINE]);
     panel.words = p.words + MEARRASOT_WORDS * node;
-    panel.numbers = p.numbers + MEARRASOT_NUMBERS * node;
+    mearrasot_cut_numbers(numbers, &p, node, panel.nodes);
     q = mearrasot_screen(at[MEARRASOT_T_END] - at[MEARRASOT_T_START]);
     q.how = MEARRASOT_DEFINITE; /* as wide as its content, up to what there is */
     answer = mearrasot_layout_page(&panel, q);

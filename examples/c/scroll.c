@@ -22,15 +22,15 @@ static float tops[ROWS], bottoms[ROWS], running[ROWS];
 /* A page, a body in it, twenty rows in that; node 2 is the first row. */
 static void fill_page(void) {
     uint32_t k;
-    mearrasot_node(words, numbers, 0, NODES, MEARRASOT_BLOCK);
-    mearrasot_node(words, numbers, 1, NODES - 1, MEARRASOT_BLOCK);
+    mearrasot_node(words, numbers, NODES, 0, NODES, MEARRASOT_BLOCK);
+    mearrasot_node(words, numbers, NODES, 1, NODES - 1, MEARRASOT_BLOCK);
     for (k = 0; k < ROWS; k++) {
         list[k] = 2 + k;
-        mearrasot_node(words, numbers, 2 + k, 1, MEARRASOT_LEAF);
-        mearrasot_measure(numbers, 2 + k, 20, 100, k == SEAL ? 70 : 10);
+        mearrasot_node(words, numbers, NODES, 2 + k, 1, MEARRASOT_LEAF);
+        mearrasot_measure(numbers, NODES, 2 + k, 20, 100, k == SEAL ? 70 : 10);
     }
-    mearrasot_set(words, numbers, 2 + SEAL, MEARRASOT_F_MARGIN + MEARRASOT_BOTTOM, MEARRASOT_PIXELS, -80);
-    mearrasot_set(words, numbers, 2 + SEAL + 2, MEARRASOT_F_MARGIN + MEARRASOT_TOP, MEARRASOT_PIXELS, 20);
+    mearrasot_set(words, numbers, NODES, 2 + SEAL, MEARRASOT_F_MARGIN + MEARRASOT_BOTTOM, MEARRASOT_PIXELS, -80);
+    mearrasot_set(words, numbers, NODES, 2 + SEAL + 2, MEARRASOT_F_MARGIN + MEARRASOT_TOP, MEARRASOT_PIXELS, 20);
 }
 
 /* What the scroll key shows at y. */
@@ -62,7 +62,7 @@ int main(void) {
         show(y);
     }
 
-    mearrasot_measure(numbers, 2, 20, 100, 26); /* a taller first row: all below moves down */
+    mearrasot_measure(numbers, NODES, 2, 20, 100, 26); /* a taller first row: all below moves down */
     list[0] = 2;
     answer = mearrasot_relayout_page(&p, list, 1, q);
     printf("relayout: answer %u, height %.1f\n", (unsigned)mearrasot_number(answer), rows[MEARRASOT_R_HEIGHT]);

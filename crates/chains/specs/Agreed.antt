@@ -3,7 +3,6 @@ use mathlib.Core.Path.{_≡_, refl, ap, _∙_}
 use mathlib.Core.Bool.{Bool, true}
 use mathlib.Core.List.{List, []}
 use Prim.Native.Nat.{ℕ, _+_, _*_, _<_}
-use native.Mathlib.Omega.{arith}
 use lib.ListN.{getD}
 use lib.Ieee.{Float, toBits, binary32}
 use Rattle.geometry.specs.Geometry.{zeroF}
@@ -18,7 +17,7 @@ use Rattle.laws.specs.Below.{under, belowT, belowKept}
 use Rattle.laws.specs.Tables.{Checks, AgreeAt, belowAt}
 use Rattle.laws.specs.Demand3.{relayouts-agree}
 use Rattle.laws.specs.Examples.{free, probeWords, probeWas}
-use Rattle.chains.specs.Pages.{low, tall, leafHigh, noRows, noMarks, changed, same-shape}
+use Rattle.chains.specs.Pages.{low, tall, leafHigh, noRows, noMarks, changed, four-tall, same-shape}
 use Rattle.chains.specs.Chain.{first, box}
 
 -- which nodes lie below a kept one: the leaf alone
@@ -32,7 +31,7 @@ below-leaf = refl
 -- the leaf lies below A; no other node is changed
 pub agree : (i : ℕ) → i < nodesIn probeWords → AgreeAt probeWords tall probeWords leafHigh (belowFirst i) i
 unfolding leafHigh
-agree i h = record { same = λ e. changed probeWords tall 2 _ _ i (omega arith) (omega arith) (λ p. false-true (belowFirst i) e (ap belowFirst p ∙ below-leaf)); kind = refl; position = refl }
+agree i h = record { same = λ e. changed probeWords tall 4 2 _ _ i four-tall refl (λ p. false-true (belowFirst i) e (ap belowFirst p ∙ below-leaf)); kind = refl; position = refl }
 
 -- both relayouts pass the tests
 pub tall-passes : relayoutTested probeWords tall (first .rows) (first .marks) [] [] box free ≡ Pass

@@ -3,7 +3,6 @@ use mathlib.Core.Path.{_≡_, refl, ap, _∙_}
 use mathlib.Core.Bool.{Bool, true, false}
 use mathlib.Core.List.{List, [], _∷_}
 use Prim.Native.Nat.{ℕ}
-use native.Mathlib.Omega.{arith}
 use Rattle.tree.specs.Tree.{Tree, node, none, more, mapT}
 use Rattle.steps.specs.Page.{Cell, Node, named, cellsOf}
 use Rattle.steps.specs.Probe.{widthPass}
@@ -17,7 +16,7 @@ use Rattle.laws.specs.Below.{under, belowT, belowKept}
 use Rattle.laws.specs.Tables.{Checks, Named, Calls, laid-out, laid-again}
 use Rattle.laws.specs.Demand3.{relayout-is-layout}
 use Rattle.laws.specs.Examples.{free, probeWords, probeWas}
-use Rattle.chains.specs.Pages.{low, tall, taller, noRows, noMarks, changed, same-shape}
+use Rattle.chains.specs.Pages.{low, tall, taller, noRows, noMarks, changed, four-low, four-tall, same-shape}
 
 -- the edit list of both relayouts: the box
 abbrev pub box : List ℕ
@@ -55,11 +54,11 @@ not-box i e p = false-true (named box i) e (ap (named box) p ∙ box-named)
 
 named-once : Named box probeWords low probeWords tall
 unfolding tall
-named-once i h e = changed probeWords low 3 _ _ i (omega arith) (omega arith) (not-box i e)
+named-once i h e = changed probeWords low 4 3 _ _ i four-low refl (not-box i e)
 
 named-twice : Named box probeWords tall probeWords taller
 unfolding taller
-named-twice i h e = changed probeWords tall 3 _ _ i (omega arith) (omega arith) (not-box i e)
+named-twice i h e = changed probeWords tall 4 3 _ _ i four-tall refl (not-box i e)
 
 -- the chain: after one relayout, and after two
 pub chain2 : Calls probeWords tall free (second .rows) (second .marks)

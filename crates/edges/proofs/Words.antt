@@ -1,6 +1,6 @@
 -- What it says of the words that 1 is not due, and of the table that 1 and 2 are not; 3 where no numbers are lent.
-use mathlib.Core.Path.{_≡_, refl}
-use mathlib.Core.Bool.{false}
+use mathlib.Core.Path.{_≡_, ap, fun-ext}
+use mathlib.Core.Bool.{Bool, false}
 use mathlib.Core.List.{List, []}
 use Prim.Native.Nat.{ℕ, _*_, _<_, _≤_}
 use native.Mathlib.Omega.{arith}
@@ -9,7 +9,7 @@ use lib.Dec.{eqb, ltb}
 use lib.Ieee.{eq, ofBits}
 use borrow.Author.Tests.{ltb-false, eqb-false, eqb-true, not-false}
 use Rattle.limits.specs.Bools.{or-left, or-right}
-use Rattle.style.specs.Style.{numberAt}
+use Rattle.style.specs.Planes.{number-none}
 use Rattle.steps.specs.Page.{nodesIn}
 use Rattle.steps.specs.Noes.{badTree, badCodes, ratioBesideFraction, badStyle, no3By, no3}
 use Rattle.tables.specs.Refusals.{Sound}
@@ -39,6 +39,10 @@ good-words ws e s =
     record { some = w .some; few = w .few; sound = nowhere-lowest (badTree ws) (nodesIn ws) s }
 
 -- with no numbers no node has a ratio: 3 is by the words alone
+style-alone : (ws : List ℕ) (i : ℕ) → badStyle ws [] i ≡ badCodes ws i
+unfolding badStyle ratioBesideFraction eq ofBits
+style-alone ws i = rw (number-none i 22)
+
 pub words-alone : (ws : List ℕ) → no3 ws [] ≡ no3By (badCodes ws) ws
-unfolding no3 badStyle ratioBesideFraction numberAt eq ofBits
-words-alone ws = refl
+unfolding no3
+words-alone ws = ap (λ (bad : ℕ → Bool). no3By bad ws) (fun-ext (style-alone ws))

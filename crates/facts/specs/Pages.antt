@@ -7,6 +7,7 @@ use lib.ListN.{getD, set, replicate}
 use lib.Ieee.{Float, ofBits, toBits, binary32}
 use Rattle.geometry.specs.Geometry.{zeroF}
 use Rattle.geometry.specs.declared.Size.{Size}
+use Rattle.style.specs.Style.{planeOf, numberPlace}
 use Rattle.util.specs.declared.OptionF32.{OptionF32}
 use Rattle.util.specs.declared.OptionF32.the-variants.{None, Some}
 use Rattle.length.specs.declared.AvailableSpace.the-variants.{MaxContent}
@@ -45,7 +46,7 @@ pub record Checked : Type 0 where
 
 unfoldable pub numbersOf : List Given → List Float → List Float
 numbersOf [] xs = xs
-numbersOf (g ∷ gs) xs = numbersOf gs (set xs (27 * g .node + g .field) (ofBits binary32 (g .bits)))
+numbersOf (g ∷ gs) xs = numbersOf gs (set xs (numberPlace (planeOf xs) (g .node) (g .field)) (ofBits binary32 (g .bits)))
 
 unfoldable pub checkedQuestion : Checked → Question
 checkedQuestion p =

@@ -3,7 +3,7 @@ use mathlib.Core.Path.{_≡_, refl, ap, _∙_}
 use mathlib.Core.Bool.{Bool, true, false}
 use mathlib.Core.List.{[], _∷_}
 use Prim.Native.Nat.{ℕ}
-use lib.ListN.{getD}
+use lib.ListN.{getD, replicate}
 use lib.Ieee.{ofBits, toBits, binary32}
 use Rattle.geometry.specs.Geometry.{zeroF}
 use Rattle.util.specs.declared.OptionF32.the-variants.{None, Some}
@@ -45,7 +45,7 @@ abbrev wrap : Style
 wrap = styleAt (1 ∷ 0 ∷ 0x5500000 ∷ 0x55 ∷ []) 0 [] 0
 
 abbrev high : ℕ → Style
-high h = styleAt (1 ∷ 0 ∷ 0x5500004 ∷ 0x55 ∷ []) 0 (zeroF ∷ ofBits binary32 h ∷ []) 0
+high h = styleAt (1 ∷ 0 ∷ 0x5500004 ∷ 0x55 ∷ []) 0 (zeroF ∷ ofBits binary32 h ∷ replicate 25 zeroF) 0
 
 abbrev asked : LayoutInput
 asked = record { known = record { width = Some (ofBits binary32 0x42c8_0000); height = None }; parent = Some (ofBits binary32 0x42c8_0000); basis = None; definiteHeight = false; available = MaxContent; collapseStart = false; collapseEnd = false; nested = false }

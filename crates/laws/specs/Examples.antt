@@ -7,6 +7,7 @@ use lib.ListN.{set, replicate}
 use lib.Ieee.{Float, ofBits, toBits, binary32}
 use Rattle.util.specs.declared.OptionF32.the-variants.{None, Some}
 use Rattle.length.specs.declared.AvailableSpace.the-variants.{MaxContent}
+use Rattle.style.specs.Style.{numberPlace}
 use Rattle.tree.specs.Tree.{Tree, node, none, more}
 use Rattle.tree.specs.Table.{from}
 use Rattle.steps.specs.Page.{Cell, pageOf, cellsOf}
@@ -31,10 +32,10 @@ unfoldable pub stackWords : List ℕ
 stackWords = 4 ∷ 0 ∷ 0x5500000 ∷ 0x55 ∷ 1 ∷ 0 ∷ 0x5500004 ∷ 0x55 ∷ 2 ∷ 0 ∷ 0x5500000 ∷ 0x55 ∷ 1 ∷ 0 ∷ 0x5500004 ∷ 0x55 ∷ []
 
 unfoldable pub stackWas : List ℕ
-stackWas = set (set (replicate 108 0) 28 0x41200000) 82 0x40a00000
+stackWas = set (set (replicate 108 0) (numberPlace 4 1 1) 0x41200000) (numberPlace 4 3 1) 0x40a00000
 
 unfoldable pub stackNow : List ℕ
-stackNow = set stackWas 28 0x41a00000
+stackNow = set stackWas (numberPlace 4 1 1) 0x41a00000
 
 -- the rows that the layout leaves, and the same with a width in C's row that nothing would give
 unfoldable pub stackRows : List ℕ
@@ -71,10 +72,10 @@ unfoldable pub probeWords : List ℕ
 probeWords = 4 ∷ 0 ∷ 0x5500000 ∷ 0x55 ∷ 2 ∷ 0 ∷ 0x5500000 ∷ 0x55 ∷ 1 ∷ 1 ∷ 0x5500000 ∷ 0x55 ∷ 1 ∷ 0 ∷ 0x5500005 ∷ 0x55 ∷ []
 
 unfoldable pub probeWas : List ℕ
-probeWas = set (set (set (set (set (replicate 108 0) 78 0x41f00000) 79 0x42200000) 80 0x40e00000) 81 0x42700000) 82 0x41200000
+probeWas = set (set (set (set (set (replicate 108 0) (numberPlace 4 2 24) 0x41f00000) (numberPlace 4 2 25) 0x42200000) (numberPlace 4 2 26) 0x40e00000) (numberPlace 4 3 0) 0x42700000) (numberPlace 4 3 1) 0x41200000
 
 unfoldable pub probeNow : List ℕ
-probeNow = set probeWas 81 0x42a00000
+probeNow = set probeWas (numberPlace 4 3 0) 0x42a00000
 
 -- the rows that the layout leaves, and the same with 90 as the answer to A's probe
 unfoldable pub probeRows : List ℕ

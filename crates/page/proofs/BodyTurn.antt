@@ -9,6 +9,7 @@ use lib.Seq.{sets, length-sets}
 use lib.Dec.{eqb, ltb}
 use lib.Ieee.{Float}
 use borrow.Author.Tests.{lt-ltb, le-ltb}
+use Rattle.style.specs.Style.{numberPlace}
 use Rattle.text.specs.Pieces.{linesOf, upTo, past, Ends}
 use Rattle.text.specs.Laws.{first-line, no-lines}
 use Rattle.lines.specs.Lines.{nodeLine, numLine}
@@ -26,13 +27,13 @@ pub node-go : (n : ℕ) (t : Tables) (w : NodeWords) → t .count < n → nodeSt
 unfolding nodeStep
 node-go n t w h = rw (lt-ltb (t .count) n h)
 
-pub num-stop : (t : Tables) (x : FieldNumber) → t .count ≡ 0 → numStep t x ≡ Stop
+pub num-stop : (n : ℕ) (t : Tables) (x : FieldNumber) → t .count ≡ 0 → numStep n t x ≡ Stop
 unfolding numStep
-num-stop t x e = rw e
+num-stop n t x e = rw e
 
-pub num-go : (t : Tables) (x : FieldNumber) → 0 < t .count → numStep t x ≡ Go (tables (t .count) (t .words) (set (t .numbers) (27 * (t .count - 1) + x .field) (x .value)))
+pub num-go : (n : ℕ) (t : Tables) (x : FieldNumber) → 0 < t .count → numStep n t x ≡ Go (tables (t .count) (t .words) (set (t .numbers) (numberPlace n (t .count - 1) (x .field)) (x .value)))
 unfolding numStep
-num-go t x h = rw (lt-ltb 0 (t .count) h)
+num-go n t x h = rw (lt-ltb 0 (t .count) h)
 
 module _ (whole : Bool) (n k : ℕ) (t : Tables) (l : List ℕ) (ls : List (List ℕ)) where
   rest-stop : bodyLine n t l ≡ Stop → rest whole n k t (l ∷ ls) ≡ Wrong k
@@ -74,7 +75,7 @@ module _ (n : ℕ) (t : Tables) (l : List ℕ) where
   unfolding bodyLine nodeIn
   line-node w e = rw e
 
-  pub line-num : (x : FieldNumber) → nodeLine l ≡ nodes.Bad → numLine l ≡ nums.Is x → bodyLine n t l ≡ numStep t x
+  pub line-num : (x : FieldNumber) → nodeLine l ≡ nodes.Bad → numLine l ≡ nums.Is x → bodyLine n t l ≡ numStep n t x
   unfolding bodyLine nodeIn numIn
   line-num x e f = rw (e, f)
 

@@ -7,6 +7,7 @@ use lib.ListN.{length, set}
 use lib.Seq.{sets}
 use lib.Dec.{eqb, ltb}
 use lib.Ieee.{Float}
+use Rattle.style.specs.Style.{numberPlace}
 use Rattle.lines.specs.Lines.{nodeLine, numLine}
 use Rattle.lines.specs.declared.NodeWords.{NodeWords}
 use Rattle.lines.specs.declared.NodeLine.{NodeLine}
@@ -36,16 +37,16 @@ nodeStep n t w =
     (Go (tables (t .count + 1) (sets (t .words) (4 * t .count) (w .size ∷ w .style ∷ w .low ∷ w .high ∷ [])) (t .numbers)))
     Stop
 
--- a number of the last node; the last line for a field counts
-unfoldable pub numStep : Tables → FieldNumber → Step
-numStep t x = cond (ltb 0 (t .count)) (Go (tables (t .count) (t .words) (set (t .numbers) (27 * (t .count - 1) + x .field) (x .value)))) Stop
+-- a number of the last node, in planes of n; the last line for a field counts
+unfoldable pub numStep : ℕ → Tables → FieldNumber → Step
+numStep n t x = cond (ltb 0 (t .count)) (Go (tables (t .count) (t .words) (set (t .numbers) (numberPlace n (t .count - 1) (x .field)) (x .value)))) Stop
 
-unfoldable pub numIn : Tables → NumLine → Step
-numIn t nums.Bad = Stop
-numIn t (nums.Is x) = numStep t x
+unfoldable pub numIn : ℕ → Tables → NumLine → Step
+numIn n t nums.Bad = Stop
+numIn n t (nums.Is x) = numStep n t x
 
 unfoldable pub nodeIn : ℕ → Tables → List ℕ → NodeLine → Step
-nodeIn n t l nodes.Bad = numIn t (numLine l)
+nodeIn n t l nodes.Bad = numIn n t (numLine l)
 nodeIn n t l (nodes.Is w) = nodeStep n t w
 
 -- a line is a node's or a number's, else it is bad

@@ -24,15 +24,15 @@ fn put_node(w: NodeWords, n: usize, count: usize, words: &mut [u32], numbers: &[
     count + 1
 }
 
-// A number of the last node; a count over n if there is none.
+// A number of the last node, in planes of n; a count over n if there is none.
 fn put_number(x: FieldNumber, n: usize, count: usize, words: &[u32], numbers: &mut [f32]) -> usize
     requires { ⌜ TablesFit n count (now words) (now numbers) ⌝ }
-    ensures { λ r. ⌜ Stepped n (numStep (tables count (now (words .entry)) (now (numbers .entry))) x) (tables count (now (words .entry)) (now (numbers .entry))) r (now (words .entry)) (now (numbers .exit)) ⌝ }
+    ensures { λ r. ⌜ Stepped n (numStep n (tables count (now (words .entry)) (now (numbers .entry))) x) (tables count (now (words .entry)) (now (numbers .entry))) r (now (words .entry)) (now (numbers .exit)) ⌝ }
 {
     if count == 0 {
         return n + 1;
     }
-    let at = 27 * (count - 1) + x.field as usize;
+    let at = style::number_place(n, count - 1, x.field as usize);
     if numbers.len() <= at {
         return count;
     }

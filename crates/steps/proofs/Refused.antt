@@ -14,7 +14,7 @@ use Rattle.steps.specs.Noes.{ratioBesideFraction, badWord, badSafety, ba
 
 -- one node whose field f is a fraction, with the ratio of these bits
 abbrev refused : ℕ → ℕ → Bool
-refused b f = ratioBesideFraction (1 ∷ 0 ∷ 2 * 4 ^ f ∷ 0 ∷ []) (replicate 22 zeroF ++ (ofBits binary32 b ∷ [])) 0
+refused b f = ratioBesideFraction (1 ∷ 0 ∷ 2 * 4 ^ f ∷ 0 ∷ []) (replicate 22 zeroF ++ (ofBits binary32 b ∷ replicate 4 zeroF)) 0
 
 -- 0 and -0 are none; 1 and NaN are one
 pub ratios : map (λ (b : ℕ). refused b 1) (0 ∷ 0x8000_0000 ∷ 0x3f80_0000 ∷ 0x7fc0_0000 ∷ []) ≡ false ∷ false ∷ true ∷ true ∷ []

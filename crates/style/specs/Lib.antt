@@ -1,4 +1,5 @@
 pub mod Codes
 pub mod Flow
+pub mod Planes
 pub mod Style
 pub mod Units

@@ -1,7 +1,9 @@
 -- A node's style, from its four words and 27 numbers.
-use Prim.Native.Nat.{ℕ, _+_, _*_}
+use Prim.Native.Nat.{ℕ, _+_, _*_, _/_}
+use mathlib.Core.Bool.{cond}
 use mathlib.Core.List.{List}
-use lib.ListN.{getD}
+use lib.ListN.{length, getD}
+use lib.Dec.{ltb}
 use lib.Ieee.{Float}
 use Rattle.geometry.specs.Geometry.{zeroF}
 use Rattle.length.specs.declared.Length.{Length}
@@ -15,9 +17,19 @@ use Rattle.style.specs.declared.Style.{Style}
 unfoldable pub wordAt : List ℕ → ℕ → ℕ → ℕ
 wordAt ws i k = getD ws (i * 4 + k) 0
 
--- number f of node i; 0 past the end
+-- Numbers stand field by field: 27 planes, each with one number of every node.
+
+-- how long a plane is
+abbrev pub planeOf : List Float → ℕ
+planeOf xs = length xs / 27
+
+-- the place of number f of node i, in planes of n
+abbrev pub numberPlace : ℕ → ℕ → ℕ → ℕ
+numberPlace n i f = f * n + i
+
+-- number f of node i; 0 past the last node
 unfoldable pub numberAt : List Float → ℕ → ℕ → Float
-numberAt xs i f = getD xs (i * 27 + f) zeroF
+numberAt xs i f = cond (ltb i (planeOf xs)) (getD xs (numberPlace (planeOf xs) i f) zeroF) zeroF
 
 -- Below: the words of the node at i, the numbers of the node at j. (A part of the words is handed on, the numbers are not cut.)
 

@@ -1,9 +1,9 @@
 // A node's style out of its words and numbers (the crate's src/style/*.rs).
 ghost use mathlib.Core.Path.{_≡_};
-ghost use Prim.Native.Nat.{_+_, _<_, _≤_};
+ghost use Prim.Native.Nat.{_+_, _^_, _<_, _≤_};
 ghost use Rattle.style.specs.Codes.{codeAt, flagAt, clearFrom, kindOf, positionOf, overflowOf, distributionAt, alignOf, distributed, alignAt, overflowXY, unitOf, lengthOf, ratioOf};
 ghost use Rattle.style.specs.Flow.{positioned, flowBy, flowAt, flowOf, isLeaf};
-ghost use Rattle.style.specs.Style.{wordAt, numberAt, lengthAt, sizeAt, rectAt, measureAt, styleAt};
+ghost use Rattle.style.specs.Style.{wordAt, numberPlace, numberAt, lengthAt, sizeAt, rectAt, measureAt, styleAt};
 use length::Length;
 use length::LengthRect;
 use length::LengthSize;
@@ -209,16 +209,23 @@ pub fn word(words: &[u32], i: usize, k: usize) -> u32
     0
 }
 
-// Number f of node i, and 0 past the end.
+// Where number f of node i stands, in planes of n. Nothing else knows the order.
+pub fn number_place(n: usize, i: usize, f: usize) -> usize
+    requires { ⌜ numberPlace n i f < 2 ^ 64 ⌝ }
+    ensures { λ r. ⌜ r ≡ numberPlace n i f ⌝ }
+{
+    f * n + i
+}
+
+// Number f of node i, and 0 past the last node.
 pub fn number(numbers: &[f32], i: usize, f: usize) -> f32
     requires { ⌜ f < 27 ⌝ }
     ensures { λ r. ⌜ r ≡ numberAt (now (numbers .entry)) i f ⌝ }
 {
-    if i <= numbers.len() / 27 {
-        let at = i * 27 + f;
-        if at < numbers.len() {
-            return numbers[at];
-        }
+    let n = numbers.len() / 27;
+    if i < n {
+        let at = number_place(n, i, f);
+        return numbers[at];
     }
     0.0
 }

@@ -26,7 +26,7 @@ fn put_box(words: &mut [u32], numbers: &mut [f32], i: usize)
     put_word(words, 4 * i, 1);
     put_word(words, 4 * i + 2, 0x5500004);
     put_word(words, 4 * i + 3, 0x55);
-    put_number(numbers, 27 * i + 1, 65536.0);
+    put_number(numbers, style::number_place(257, i, 1), 65536.0);
 }
 
 // 257 such boxes.
@@ -92,8 +92,8 @@ fn main() {
     fill(&mut words, &mut numbers);
     words[0] = 257;
     words[2] = 0x5500000;
-    numbers[1] = 0.0;
-    numbers[6913] = 65535.0;
+    numbers[257] = 0.0;
+    numbers[513] = 65535.0;
     let q = question();
     let a = layout::layout(
         &words,
@@ -105,7 +105,7 @@ fn main() {
         q,
     );
     show(a, rows[3]);
-    numbers[6913] = 65536.0;
+    numbers[513] = 65536.0;
     let b = layout::layout(
         &words,
         &numbers,

@@ -1,43 +1,42 @@
-use Rattle.style.specs.Style.{numberAt}
+use mathlib.Core.Path.{_≡_, sym, _∙_}
 use denote.Ref.{now}
-use Prim.Native.Nat.{_+_, _*_}
 use native.Mathlib.Omega.{arith}
-use Rattle.lent.proofs.Reading.{getD-any, getD-past}
-use borrow.Author.Needs.{needs}
+use Rattle.geometry.specs.Geometry.{zeroF}
+use Rattle.lent.proofs.Reading.{getD-any}
+use Rattle.style.specs.Style.{planeOf, numberPlace}
+use Rattle.style.specs.Planes.{place-within, number-in, number-past}
 use Rattle.style.proofs.number.Statement.{statement}
 use Rattle.style.proofs.number.Tie as tie
 
-mul-at : tie.Need-mul-at
-mul-at c = search needs
-
-add-at : tie.Need-add-at
-add-at c = search needs
+number-place-requires : tie.Need-number-place-requires
+number-place-requires c κs =
+    let a = c .before .before .args in
+    omega (arith, place-within {n = planeOf (now (a .numbers))} {i = a .i} {f = a .f} (omega arith) (omega arith))
 
 mul-result : tie.Need-mul-result
-mul-result c = search needs
+mul-result c =
+    let a = c .before .before .before .args in
+    omega (arith, c .number-place .ensures, place-within {n = planeOf (now (a .numbers))} {i = a .i} {f = a .f} (omega arith) (omega arith))
 
 shared-slice-read-result : tie.Need-shared-slice-read-result
-shared-slice-read-result c = search needs
+shared-slice-read-result c =
+    let a = c .before .before .before .before .args in
+    omega (arith, place-within {n = planeOf (now (a .numbers))} {i = a .i} {f = a .f} (omega arith) (omega arith))
 
 returns : tie.Need-returns
-unfolding numberAt
 returns c =
-    let a = c .before .before .before .args in
-    getD-any (now (a .numbers)) (a .i * 27 + a .f) _ _ (omega arith)
+    let a = c .before .before .before .before .args in
+    let xs = now (a .numbers) in
+    let within = place-within {n = planeOf xs} {i = a .i} {f = a .f} (omega arith) (omega arith) in
+    let at : c .before .number-place .result ≡ numberPlace (planeOf xs) (a .i) (a .f) = c .before .number-place .ensures in
+    rw at (getD-any xs (numberPlace (planeOf xs) (a .i) (a .f)) _ zeroF (omega (arith, within)) ∙ sym (number-in xs (a .i) (a .f) (omega arith)))
 
 returns-2 : tie.Need-returns-2
-unfolding numberAt
 returns-2 c =
     let a = c .before .before .args in
-    getD-past (now (a .numbers)) (a .i * 27 + a .f) _ (omega arith)
-
-returns-3 : tie.Need-returns-3
-unfolding numberAt
-returns-3 c =
-    let a = c .before .args in
-    getD-past (now (a .numbers)) (a .i * 27 + a .f) _ (omega arith)
+    sym (number-past (now (a .numbers)) (a .i) (a .f) (omega arith))
 
 pub number-spec : {M : Type 1} → statement M
 number-spec =
     tie.close
-    (tie.spec mul-at add-at mul-result shared-slice-read-result returns returns-2 returns-3)
+    (tie.spec number-place-requires mul-result shared-slice-read-result returns returns-2)

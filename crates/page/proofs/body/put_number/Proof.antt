@@ -1,15 +1,13 @@
 use native.Mathlib.Omega.{arith}
-use mathlib.Core.Path.{_≡_, refl, sym, _∙_, ap}
-use mathlib.Core.Bool.{Bool, true, false, cond}
-use mathlib.Core.List.{List, [], _∷_}
-use Prim.Native.Nat.{ℕ, _+_, _-_, _*_, _≤_, _<_}
-use lib.ListN.{length, take, drop, set, length-set}
-use lib.Seq.{sets, length-sets, set-out}
-use lib.Dec.{eqb}
-use borrow.Author.Tests.{eq-eqb, ne-eqb}
+use native.Mathlib.Nat.{mul-le-mul-left}
+use mathlib.Core.Path.{_≡_, refl, ap}
+use Prim.Native.Nat.{_-_}
+use lib.ListN.{length-set}
+use lib.Seq.{set-out}
 use denote.Ref.{now}
-use Rattle.page.specs.Body.{tables, bodyLine, nodeStep, numStep, nodeIn, numIn, Stepped}
-use Rattle.page.proofs.BodyTurn.{goes-on, stops-here, line-node, line-num, line-bad, four, node-stop, node-go, num-stop, num-go, turn-stop, turn-go, at-end}
+use Rattle.style.specs.Style.{numberPlace}
+use Rattle.page.specs.Body.{tables}
+use Rattle.page.proofs.BodyTurn.{num-stop, num-go}
 use borrow.Author.Needs.{needs}
 use Rattle.page.proofs.body.put_number.Statement.{statement}
 use Rattle.page.proofs.body.put_number.Tie as tie
@@ -21,27 +19,28 @@ add-result c = search needs
 
 returns : tie.Need-returns
 returns c =
-    let a = c .before .args in
-    rw (num-stop (tables (a .count) (now (a .words)) (now (a .numbers))) (a .x) (c .if1 .taken)) (omega arith, refl, refl)
+    let a = c .before .before .before .args in
+    rw (num-stop (a .n) (tables (a .count) (now (a .words)) (now (a .numbers))) (a .x) (c .if1 .taken)) (omega arith, refl, refl)
 
-sub-at : tie.Need-sub-at
-sub-at c = search needs
+sub-number-place : tie.Need-sub-number-place
+sub-number-place c = search needs
 
-mul-at : tie.Need-mul-at
-mul-at c = search needs
+cast-number-place : tie.Need-cast-number-place
+cast-number-place c = search needs
 
-cast-at : tie.Need-cast-at
-cast-at c = search needs
-
-add-at : tie.Need-add-at
-add-at c = search needs
+number-place-requires : tie.Need-number-place-requires
+number-place-requires c κs =
+    let a = c .before .before .before .before .args in
+    let r = c .before .before .before .before .pre in
+    omega (arith, mul-le-mul-left (a .x .field) (r .few))
 
 returns-2 : tie.Need-returns-2
 returns-2 c =
-    let a = c .before .before .before .args in
-    let r = c .before .before .before .pre in
-    let o = set-out (now (a .numbers)) (27 * (a .count - 1) + a .x .field) (a .x .value) (c .if2 .taken) in
-    rw (num-go (tables (a .count) (now (a .words)) (now (a .numbers))) (a .x) (omega arith)) (r .so-far, ap (tables (a .count) (now (a .words))) o, refl, refl)
+    let a = c .before .before .before .before .before .before .args in
+    let r = c .before .before .before .before .before .before .pre in
+    let at : c .before .number-place .result ≡ numberPlace (a .n) (a .count - 1) (a .x .field) = c .before .number-place .ensures in
+    let o = set-out (now (a .numbers)) (numberPlace (a .n) (a .count - 1) (a .x .field)) (a .x .value) (omega (arith, at, c .if2 .taken)) in
+    rw (num-go (a .n) (tables (a .count) (now (a .words)) (now (a .numbers))) (a .x) (omega arith)) (r .so-far, ap (tables (a .count) (now (a .words))) o, refl, refl)
 
 mul-numbers : tie.Need-mul-numbers
 mul-numbers c = search needs
@@ -54,9 +53,10 @@ same-length c = search needs
 
 returns-3 : tie.Need-returns-3
 returns-3 c =
-    let a = c .before .before .before .args in
-    let r = c .before .before .before .pre in
-    rw (num-go (tables (a .count) (now (a .words)) (now (a .numbers))) (a .x) (omega arith)) (r .so-far, refl, refl, simp length-set)
+    let a = c .before .before .before .before .before .before .args in
+    let r = c .before .before .before .before .before .before .pre in
+    let at : c .before .number-place .result ≡ numberPlace (a .n) (a .count - 1) (a .x .field) = c .before .number-place .ensures in
+    rw (num-go (a .n) (tables (a .count) (now (a .words)) (now (a .numbers))) (a .x) (omega arith), ← at) (r .so-far, refl, refl, simp length-set)
 
 pub put-number-spec : {M : Type 1} → statement M
 put-number-spec =
@@ -64,10 +64,9 @@ put-number-spec =
     (tie.spec
     add-result
     returns
-    sub-at
-    mul-at
-    cast-at
-    add-at
+    sub-number-place
+    cast-number-place
+    number-place-requires
     returns-2
     mul-numbers
     slice-write-numbers
