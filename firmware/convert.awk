@@ -6,7 +6,7 @@
 # was not there when this was tried, as it might depend on the size of a pointer.
 BEGIN {
     kind["call"] = kind["store"] = kind["br"] = kind["ret"] = kind["switch"] = kind["unreachable"] = "void"
-    n = split("add alloca and bitcast call fadd fcmp fdiv fmul fneg fsub getelementptr icmp load lshr mul sub " \
+    n = split("add alloca and bitcast call fadd fcmp fdiv fmul fneg fsub getelementptr icmp load lshr mul or sub " \
               "trunc udiv urem xor zext", ops, " ")
     for (k = 1; k <= n; k++) value[ops[k]] = 1
     # What include/mearrasot.h declares; 's' is a pointer and its count of 64 bits.

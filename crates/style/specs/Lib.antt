@@ -3,3 +3,4 @@ pub mod Flow
 pub mod Planes
 pub mod Style
 pub mod Units
+pub mod Fields

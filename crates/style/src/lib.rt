@@ -3,7 +3,8 @@ ghost use mathlib.Core.Path.{_≡_};
 ghost use Prim.Native.Nat.{_+_, _^_, _<_, _≤_};
 ghost use Rattle.style.specs.Codes.{codeAt, flagAt, clearFrom, kindOf, positionOf, overflowOf, distributionAt, alignOf, distributed, alignAt, overflowXY, unitOf, lengthOf, ratioOf};
 ghost use Rattle.style.specs.Flow.{positioned, flowBy, flowAt, flowOf, isLeaf};
-ghost use Rattle.style.specs.Style.{wordAt, numberPlace, numberAt, lengthAt, sizeAt, rectAt, measureAt, styleAt};
+ghost use Rattle.style.specs.Style.{wordAt, planeOf, numberPlace, numberAt, measureAt, styleAt};
+ghost use Rattle.style.specs.Fields.{sizeIn, rectIn};
 use length::Length;
 use length::LengthRect;
 use length::LengthSize;
@@ -217,12 +218,11 @@ pub fn number_place(n: usize, i: usize, f: usize) -> usize
     f * n + i
 }
 
-// Number f of node i, and 0 past the last node.
-pub fn number(numbers: &[f32], i: usize, f: usize) -> f32
-    requires { ⌜ f < 27 ⌝ }
+// Number f of node i in planes of n, and 0 past the last node.
+pub fn number_in(numbers: &[f32], n: usize, i: usize, f: usize) -> f32
+    requires { ⌜ (n ≡ planeOf (now numbers)) × (f < 27) ⌝ }
     ensures { λ r. ⌜ r ≡ numberAt (now (numbers .entry)) i f ⌝ }
 {
-    let n = numbers.len() / 27;
     if i < n {
         let at = number_place(n, i, f);
         return numbers[at];
@@ -230,34 +230,35 @@ pub fn number(numbers: &[f32], i: usize, f: usize) -> f32
     0.0
 }
 
-pub fn length_at(words: &[u32], i: usize, numbers: &[f32], j: usize, f: usize) -> Length
-    requires { ⌜ f < 22 ⌝ }
-    ensures { λ r. ⌜ r ≡ lengthAt (now (words .entry)) i (now (numbers .entry)) j f ⌝ }
+// Number f of node i, and 0 past the last node.
+pub fn number(numbers: &[f32], i: usize, f: usize) -> f32
+    requires { ⌜ f < 27 ⌝ }
+    ensures { λ r. ⌜ r ≡ numberAt (now (numbers .entry)) i f ⌝ }
 {
-    let u = word(words, i, 2);
-    let v = word(words, i, 3);
-    length_from(unit(u, v, f as u32), number(numbers, j, f))
+    number_in(numbers, numbers.len() / 27, i, f)
 }
 
-fn size_at(words: &[u32], i: usize, numbers: &[f32], j: usize, f: usize) -> LengthSize
-    requires { ⌜ f < 21 ⌝ }
-    ensures { λ r. ⌜ r ≡ sizeAt (now (words .entry)) i (now (numbers .entry)) j f ⌝ }
+// Two lengths of node j, whose units stand from k on in one unit word: a shift and a mask for each.
+fn size_in(units: u32, k: u32, numbers: &[f32], n: usize, j: usize, f: usize) -> LengthSize
+    requires { ⌜ (k < 15) × ((n ≡ planeOf (now numbers)) × (f < 26)) ⌝ }
+    ensures { λ r. ⌜ r ≡ sizeIn units k (now (numbers .entry)) j f ⌝ }
 {
     LengthSize {
-        width: length_at(words, i, numbers, j, f),
-        height: length_at(words, i, numbers, j, f + 1),
+        width: length_from(code(units, k), number_in(numbers, n, j, f)),
+        height: length_from(code(units, k + 1), number_in(numbers, n, j, f + 1)),
     }
 }
 
-fn rect_at(words: &[u32], i: usize, numbers: &[f32], j: usize, f: usize) -> LengthRect
-    requires { ⌜ f < 19 ⌝ }
-    ensures { λ r. ⌜ r ≡ rectAt (now (words .entry)) i (now (numbers .entry)) j f ⌝ }
+// Four lengths likewise.
+fn rect_in(units: u32, k: u32, numbers: &[f32], n: usize, j: usize, f: usize) -> LengthRect
+    requires { ⌜ (k < 13) × ((n ≡ planeOf (now numbers)) × (f < 24)) ⌝ }
+    ensures { λ r. ⌜ r ≡ rectIn units k (now (numbers .entry)) j f ⌝ }
 {
     LengthRect {
-        top: length_at(words, i, numbers, j, f),
-        right: length_at(words, i, numbers, j, f + 1),
-        bottom: length_at(words, i, numbers, j, f + 2),
-        left: length_at(words, i, numbers, j, f + 3),
+        top: length_from(code(units, k), number_in(numbers, n, j, f)),
+        right: length_from(code(units, k + 1), number_in(numbers, n, j, f + 1)),
+        bottom: length_from(code(units, k + 2), number_in(numbers, n, j, f + 2)),
+        left: length_from(code(units, k + 3), number_in(numbers, n, j, f + 3)),
     }
 }
 
@@ -289,20 +290,15 @@ fn overflow_of(w: u32) -> OverflowXY
     }
 }
 
-fn measure_at(numbers: &[f32], j: usize) -> Measure
+fn measure_at(numbers: &[f32], n: usize, j: usize) -> Measure
+    requires { ⌜ n ≡ planeOf (now numbers) ⌝ }
     ensures { λ r. ⌜ r ≡ measureAt (now (numbers .entry)) j ⌝ }
 {
     Measure {
-        least: number(numbers, j, 24),
-        most: number(numbers, j, 25),
-        height: number(numbers, j, 26),
+        least: number_in(numbers, n, j, 24),
+        most: number_in(numbers, n, j, 25),
+        height: number_in(numbers, n, j, 26),
     }
-}
-
-fn ratio_at(numbers: &[f32], j: usize) -> OptionF32
-    ensures { λ r. ⌜ r ≡ ratioOf (numberAt (now (numbers .entry)) j 22) ⌝ }
-{
-    ratio_from(number(numbers, j, 22))
 }
 
 // The style of the node at i of the words and at j of the numbers.
@@ -310,6 +306,9 @@ pub fn style_at(words: &[u32], i: usize, numbers: &[f32], j: usize) -> Style
     ensures { λ r. ⌜ r ≡ styleAt (now (words .entry)) i (now (numbers .entry)) j ⌝ }
 {
     let w = word(words, i, 1);
+    let u = word(words, i, 2);
+    let v = word(words, i, 3);
+    let n = numbers.len() / 27;
     Style {
         kind: kind_of(w),
         content: flag(w, 2),
@@ -319,16 +318,16 @@ pub fn style_at(words: &[u32], i: usize, numbers: &[f32], j: usize) -> Style
         align: align_of(w),
         safe: flag(w, 17),
         contained: flag(w, 12),
-        size: size_at(words, i, numbers, j, 0),
-        min: size_at(words, i, numbers, j, 2),
-        max: size_at(words, i, numbers, j, 4),
-        margin: rect_at(words, i, numbers, j, 6),
-        padding: rect_at(words, i, numbers, j, 10),
-        border: rect_at(words, i, numbers, j, 14),
-        inset: rect_at(words, i, numbers, j, 18),
-        ratio: ratio_at(numbers, j),
-        scrollbar: number(numbers, j, 23),
-        measure: measure_at(numbers, j),
+        size: size_in(u, 0, numbers, n, j, 0),
+        min: size_in(u, 2, numbers, n, j, 2),
+        max: size_in(u, 4, numbers, n, j, 4),
+        margin: rect_in(u, 6, numbers, n, j, 6),
+        padding: rect_in(u, 10, numbers, n, j, 10),
+        border: rect_in(v, 0, numbers, n, j, 14),
+        inset: rect_in(v, 4, numbers, n, j, 18),
+        ratio: ratio_from(number_in(numbers, n, j, 22)),
+        scrollbar: number_in(numbers, n, j, 23),
+        measure: measure_at(numbers, n, j),
     }
 }
 

@@ -11,3 +11,6 @@ pub mod Exactly
 pub mod Ancestors
 pub mod TreePasses
 pub mod TreeFaults
+pub mod UnitMasks
+pub mod UnitTests
+pub mod FieldRuns

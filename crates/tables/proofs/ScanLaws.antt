@@ -3,8 +3,9 @@
 --     is-hit, is-none                the answer, from what p says
 --     hit-is, none-is                and back, for a hit that is injective and never none
 --     lowest-*, some-*               the same for `lowest` and `some`
+--     some-two, some-same            places in two parts; a test that says the same there
 use mathlib.Core.Path.{_≡_, refl, sym, _∙_, ap}
-use mathlib.Core.Bool.{Bool, true, false}
+use mathlib.Core.Bool.{Bool, true, false, _||_}
 use mathlib.Core.Logic.{⊎-elim}
 use Prim.Native.Nat.{ℕ, zero, suc, _+_, _-_, _<_, _≤_}
 use native.Mathlib.Omega.{arith}
@@ -210,6 +211,30 @@ module _ (p : ℕ → Bool) (n : ℕ) where
       go : (b : Bool) → p j ≡ b → p j ≡ false
       go true q = never (sym (some-is j h q) ∙ e)
       go false q = q
+
+-- ---- some of the places from i on
+
+module _ (p : ℕ → Bool) where
+  -- in m places and then in n more
+  pub some-two : (m n i : ℕ) → scan p (λ _. true) false i (m + n) ≡ (scan p (λ _. true) false i m || scan p (λ _. true) false (i + m) n)
+  some-two m n i = go (scanned p m i)
+    where
+      go : Scanned p i m → scan p (λ _. true) false i (m + n) ≡ (scan p (λ _. true) false i m || scan p (λ _. true) false (i + m) n)
+      go (found k h) =
+          let a = h .high in
+          rw (is-hit p (λ _. true) false m i k h) (is-hit p (λ _. true) false (m + n) i k (record { low = h .low; high = omega arith; takes = h .takes; first = h .first }))
+      go (clear c) = rw (is-none p (λ _. true) false m i c) (scan-skip p (λ _. true) false m n i c)
+
+  -- another test that says the same of them
+  pub some-same : (q : ℕ → Bool) (n i : ℕ) → ((j : ℕ) → i ≤ j → j < i + n → p j ≡ q j) → scan p (λ _. true) false i n ≡ scan q (λ _. true) false i n
+  some-same q n i s = go (scanned p n i)
+    where
+      go : Scanned p i n → scan p (λ _. true) false i n ≡ scan q (λ _. true) false i n
+      go (found k h) =
+          let l = h .low in
+          let g = h .high in
+          is-hit p (λ _. true) false n i k h ∙ sym (is-hit q (λ _. true) false n i k (record { low = l; high = g; takes = sym (s k l g) ∙ h .takes; first = λ j a b. sym (s j a (omega arith)) ∙ h .first j a b }))
+      go (clear c) = is-none p (λ _. true) false n i c ∙ sym (is-none q (λ _. true) false n i (λ j a b. sym (s j a b) ∙ c j a b))
 
 -- some place that is taken
 pub record Taken (p : ℕ → Bool) (n : ℕ) : Type 0 where

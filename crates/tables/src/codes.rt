@@ -1,12 +1,10 @@
 // 3: the codes and units of a node.
 ghost use mathlib.Core.Path.{_≡_};
-ghost use mathlib.Core.Bool.{_&&_};
 ghost use Prim.Native.Nat.{_≤_};
-ghost use lib.Dec.{leb, ltb};
 ghost use Rattle.style.specs.Codes.{unitOf};
 ghost use Rattle.steps.specs.Scan.{lowest, some};
 ghost use Rattle.steps.specs.Page.{nodesIn};
-ghost use Rattle.steps.specs.Noes.{noAuto, badUnit, badWord, badSafety, badAlign, badCodes, ratioBesideFraction, badStyle};
+ghost use Rattle.steps.specs.Noes.{badUnit, badWord, badSafety, badAlign, badCodes, ratioBesideFraction, badStyle};
 use steps::Found;
 use style::clear_from;
 use style::code;
@@ -17,45 +15,22 @@ use style::unit;
 use style::word;
 use tree::NodeId;
 
-// From lo on and below hi.
-pub(crate) fn spans(lo: u32, hi: u32, f: u32) -> bool
-    ensures { λ r. ⌜ r ≡ leb lo f && ltb f hi ⌝ }
-{
-    if lo <= f { f < hi } else { false }
-}
-
-// 3: fields that take no auto.
-fn no_auto(f: u32) -> bool
-    ensures { λ r. ⌜ r ≡ noAuto f ⌝ }
-{
-    spans(10, 18, f)
-}
-
-// 3: unit 3 is unknown.
-fn bad_unit(f: u32, unit: u32) -> bool
-    ensures { λ r. ⌜ r ≡ badUnit f unit ⌝ }
-{
-    if unit == 3 {
-        return true;
-    }
-    if unit == 0 {
-        return no_auto(f);
-    }
-    false
-}
-
-// 3: one of a node's 22 units, of its two unit words.
+// 3: one of a node's 22 units, of its two unit words. A shift lays the two bits of each field over one another, a
+// mask takes all fields at once: unit 3 has both bits, auto has none, and fields 10 to 17 take no auto.
 fn some_bad_unit(u: u32, v: u32) -> bool
     ensures { λ r. ⌜ r ≡ some (λ f. badUnit f (unitOf u v f)) 22 ⌝ }
 {
-    let mut f = 0;
-    while f < 22 {
-        if bad_unit(f, unit(u, v, f)) {
-            return true;
-        }
-        f += 1;
+    if ((u & (u >> 1)) & 0x0555_5555) != 0 {
+        return true;
     }
-    false
+    if ((v & (v >> 1)) & 0x5555) != 0 {
+        return true;
+    }
+    let p = u >> 20;
+    if ((p | (p >> 1)) & 0x55) != 0x55 {
+        return true;
+    }
+    ((v | (v >> 1)) & 0x55) != 0x55
 }
 
 // 3: a word that is unknown, or stands beside bits 10-11.

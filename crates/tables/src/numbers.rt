@@ -1,46 +1,28 @@
 // 4: the numbers of a node, and those of the question.
 ghost use mathlib.Core.Path.{_≡_};
-ghost use Prim.Native.Nat.{_≤_};
+ghost use mathlib.Core.Bool.{true, false};
+ghost use Prim.Native.Nat.{_+_, _-_, _≤_};
 ghost use Rattle.style.specs.Codes.{unitOf};
-ghost use Rattle.style.specs.Style.{wordAt, numberAt};
-ghost use Rattle.steps.specs.Scan.{lowest, some};
+ghost use Rattle.style.specs.Style.{wordAt, planeOf, numberAt};
+ghost use Rattle.steps.specs.Scan.{scan, lowest, some};
 ghost use Rattle.steps.specs.Page.{nodesIn};
-ghost use Rattle.steps.specs.Noes.{signed, mostOf, badField, badPixels, badRatio, badNumbers, badOption, badQuestion};
-use crate::codes::spans;
+ghost use Rattle.steps.specs.Noes.{mostOf, badField, badPixels, badRatio, badNumbers, badOption, badQuestion};
+ghost use Rattle.tables.specs.Runs.{badIn};
 use limits::in_range;
 use steps::Found;
 use steps::LayoutInput;
-use style::number;
-use style::unit;
+use style::code;
+use style::number_in;
 use style::word;
 use tree::NodeId;
 use util::OptionF32;
 use util::pick;
-
-// 4: fields that may be negative.
-fn is_signed(f: u32) -> bool
-    ensures { λ r. ⌜ r ≡ signed f ⌝ }
-{
-    if spans(6, 10, f) {
-        return true;
-    }
-    spans(18, 22, f)
-}
 
 // 4: the largest magnitude of a field of this unit.
 fn most_of(unit: u32) -> f32
     ensures { λ r. ⌜ r ≡ mostOf unit ⌝ }
 {
     pick(unit == 2, 1.0, 65536.0)
-}
-
-// 4: field f of this unit.
-fn bad_field(f: u32, unit: u32, x: f32) -> bool
-    ensures { λ r. ⌜ r ≡ badField f unit x ⌝ }
-{
-    let most = most_of(unit);
-    let least = pick(is_signed(f), -most, 0.0);
-    !in_range(x, least, most)
 }
 
 // 4: not from 0 to 65,536.
@@ -60,15 +42,26 @@ fn bad_ratio(x: f32) -> bool
     !in_range(x, 0.015625, 64.0)
 }
 
-// 4: one of node i's 22 lengths.
-fn some_bad_field(words: &[u32], numbers: &[f32], i: usize) -> bool
-    ensures { λ r. ⌜ r ≡ some (λ f. badField f (unitOf (wordAt (now (words .entry)) i 2) (wordAt (now (words .entry)) i 3) f) (numberAt (now (numbers .entry)) i f)) 22 ⌝ }
+// 4: one of node i's fields from .. to, whose units stand in one word that begins with field low: one shift and one
+// mask for each.
+fn some_bad_in(
+    units: u32,
+    low: u32,
+    signs: bool,
+    numbers: &[f32],
+    n: usize,
+    i: usize,
+    from: u32,
+    to: u32,
+) -> bool
+    requires { ⌜ (n ≡ planeOf (now numbers)) × ((low ≤ from) × ((from ≤ to) × ((to ≤ low + 16) × (to ≤ 22)))) ⌝ }
+    ensures { λ r. ⌜ r ≡ scan (badIn units low signs (now (numbers .entry)) i) (λ _. true) false from (to - from) ⌝ }
 {
-    let u = word(words, i, 2);
-    let v = word(words, i, 3);
-    let mut f = 0;
-    while f < 22 {
-        if bad_field(f, unit(u, v, f), number(numbers, i, f as usize)) {
+    let mut f = from;
+    while f < to {
+        let most = most_of(code(units, f - low));
+        let least = pick(signs, -most, 0.0);
+        if !in_range(number_in(numbers, n, i, f as usize), least, most) {
             return true;
         }
         f += 1;
@@ -76,28 +69,51 @@ fn some_bad_field(words: &[u32], numbers: &[f32], i: usize) -> bool
     false
 }
 
+// 4: one of node i's 22 lengths.
+fn some_bad_field(words: &[u32], numbers: &[f32], n: usize, i: usize) -> bool
+    requires { ⌜ n ≡ planeOf (now numbers) ⌝ }
+    ensures { λ r. ⌜ r ≡ some (λ f. badField f (unitOf (wordAt (now (words .entry)) i 2) (wordAt (now (words .entry)) i 3) f) (numberAt (now (numbers .entry)) i f)) 22 ⌝ }
+{
+    let u = word(words, i, 2);
+    let v = word(words, i, 3);
+    if some_bad_in(u, 0, false, numbers, n, i, 0, 6) {
+        return true;
+    }
+    if some_bad_in(u, 0, true, numbers, n, i, 6, 10) {
+        return true;
+    }
+    if some_bad_in(u, 0, false, numbers, n, i, 10, 14) {
+        return true;
+    }
+    if some_bad_in(v, 14, false, numbers, n, i, 14, 18) {
+        return true;
+    }
+    some_bad_in(v, 14, true, numbers, n, i, 18, 22)
+}
+
 // 4, of node i.
-fn bad_numbers(words: &[u32], numbers: &[f32], i: usize) -> bool
+fn bad_numbers(words: &[u32], numbers: &[f32], n: usize, i: usize) -> bool
+    requires { ⌜ n ≡ planeOf (now numbers) ⌝ }
     ensures { λ r. ⌜ r ≡ badNumbers (now (words .entry)) (now (numbers .entry)) i ⌝ }
 {
-    if some_bad_field(words, numbers, i) {
+    if some_bad_field(words, numbers, n, i) {
         return true;
     }
-    if bad_ratio(number(numbers, i, 22)) {
+    if bad_ratio(number_in(numbers, n, i, 22)) {
         return true;
     }
-    if bad_pixels(number(numbers, i, 23)) {
+    if bad_pixels(number_in(numbers, n, i, 23)) {
         return true;
     }
-    let least = number(numbers, i, 24);
+    let least = number_in(numbers, n, i, 24);
     if bad_pixels(least) {
         return true;
     }
-    let most = number(numbers, i, 25);
+    let most = number_in(numbers, n, i, 25);
     if bad_pixels(most) {
         return true;
     }
-    if bad_pixels(number(numbers, i, 26)) {
+    if bad_pixels(number_in(numbers, n, i, 26)) {
         return true;
     }
     most < least
@@ -109,9 +125,10 @@ pub(crate) fn first_bad_numbers(words: &[u32], numbers: &[f32]) -> Found
     ensures { λ r. ⌜ r ≡ lowest (badNumbers (now (words .entry)) (now (numbers .entry))) (nodesIn (now (words .entry))) ⌝ }
 {
     let n = words.len() / 4;
+    let plane = numbers.len() / 27;
     let mut i = 0;
     while i < n {
-        if bad_numbers(words, numbers, i) {
+        if bad_numbers(words, numbers, plane, i) {
             return Found::At(NodeId(i as u32));
         }
         i += 1;

@@ -1,10 +1,19 @@
+use native.Mathlib.Omega.{arith}
+use denote.Ref.{now}
 use Rattle.style.specs.Style.{styleAt}
+use Rattle.style.specs.Fields.{size-first, rect-first, rect-second}
 use borrow.Author.Needs.{needs}
 use Rattle.style.proofs.style_at.Statement.{statement}
 use Rattle.style.proofs.style_at.Tie as tie
 
 word-requires : tie.Need-word-requires
 word-requires c κs = search needs
+
+word-requires-2 : tie.Need-word-requires-2
+word-requires-2 c κs = search needs
+
+word-requires-3 : tie.Need-word-requires-3
+word-requires-3 c κs = search needs
 
 kind-of-requires : tie.Need-kind-of-requires
 kind-of-requires c κs = search needs
@@ -30,45 +39,54 @@ flag-requires-3 c κs = search needs
 flag-requires-4 : tie.Need-flag-requires-4
 flag-requires-4 c κs = search needs
 
-size-at-requires : tie.Need-size-at-requires
-size-at-requires c κs = search needs
+size-in-requires : tie.Need-size-in-requires
+size-in-requires c κs = search needs
 
-size-at-requires-2 : tie.Need-size-at-requires-2
-size-at-requires-2 c κs = search needs
+size-in-requires-2 : tie.Need-size-in-requires-2
+size-in-requires-2 c κs = search needs
 
-size-at-requires-3 : tie.Need-size-at-requires-3
-size-at-requires-3 c κs = search needs
+size-in-requires-3 : tie.Need-size-in-requires-3
+size-in-requires-3 c κs = search needs
 
-rect-at-requires : tie.Need-rect-at-requires
-rect-at-requires c κs = search needs
+rect-in-requires : tie.Need-rect-in-requires
+rect-in-requires c κs = search needs
 
-rect-at-requires-2 : tie.Need-rect-at-requires-2
-rect-at-requires-2 c κs = search needs
+rect-in-requires-2 : tie.Need-rect-in-requires-2
+rect-in-requires-2 c κs = search needs
 
-rect-at-requires-3 : tie.Need-rect-at-requires-3
-rect-at-requires-3 c κs = search needs
+rect-in-requires-3 : tie.Need-rect-in-requires-3
+rect-in-requires-3 c κs = search needs
 
-rect-at-requires-4 : tie.Need-rect-at-requires-4
-rect-at-requires-4 c κs = search needs
+rect-in-requires-4 : tie.Need-rect-in-requires-4
+rect-in-requires-4 c κs = search needs
 
-ratio-at-requires : tie.Need-ratio-at-requires
-ratio-at-requires c κs = search needs
+number-in-requires : tie.Need-number-in-requires
+number-in-requires c κs = search needs
 
-number-requires : tie.Need-number-requires
-number-requires c κs = search needs
+ratio-from-requires : tie.Need-ratio-from-requires
+ratio-from-requires c κs = search needs
+
+number-in-requires-2 : tie.Need-number-in-requires-2
+number-in-requires-2 c κs = search needs
 
 measure-at-requires : tie.Need-measure-at-requires
 measure-at-requires c κs = search needs
 
 returns : tie.Need-returns
 unfolding styleAt
-returns c = rw (c .measure-at .ensures, c .before .number .ensures, c .before .before .ratio-at .ensures, c .before .before .before .rect-at4 .ensures, c .before .before .before .before .rect-at3 .ensures, c .before .before .before .before .before .rect-at2 .ensures) (rw (c .before .before .before .before .before .before .rect-at .ensures, c .before .before .before .before .before .before .before .size-at3 .ensures, c .before .before .before .before .before .before .before .before .size-at2 .ensures, c .before .before .before .before .before .before .before .before .before .size-at .ensures, c .before .before .before .before .before .before .before .before .before .before .flag4 .ensures, c .before .before .before .before .before .before .before .before .before .before .before .flag3 .ensures, c .before .before .before .before .before .before .before .before .before .before .before .before .align-of .ensures) (rw (c .before .before .before .before .before .before .before .before .before .before .before .before .before .overflow-of .ensures, c .before .before .before .before .before .before .before .before .before .before .before .before .before .before .position-of .ensures, c .before .before .before .before .before .before .before .before .before .before .before .before .before .before .before .flag2 .ensures, c .before .before .before .before .before .before .before .before .before .before .before .before .before .before .before .before .flag .ensures, c .before .before .before .before .before .before .before .before .before .before .before .before .before .before .before .before .before .kind-of .ensures, c .before .before .before .before .before .before .before .before .before .before .before .before .before .before .before .before .before .before .word .ensures)))
+returns c =
+    let a = c .before .before .before .before .before .before .before .before .before .before .before .before .before .before .before .before .before .before .before .before .before .before .before .before .args in
+    let ws = now (a .words) in
+    let xs = now (a .numbers) in
+    rw (c .measure-at .ensures, c .before .number-in2 .ensures, c .before .before .ratio-from .ensures, c .before .before .before .number-in .ensures, c .before .before .before .before .rect-in4 .ensures, c .before .before .before .before .before .rect-in3 .ensures) (rw (c .before .before .before .before .before .before .rect-in2 .ensures, c .before .before .before .before .before .before .before .rect-in .ensures, c .before .before .before .before .before .before .before .before .size-in3 .ensures, c .before .before .before .before .before .before .before .before .before .size-in2 .ensures, c .before .before .before .before .before .before .before .before .before .before .size-in .ensures) (rw (c .before .before .before .before .before .before .before .before .before .before .before .flag4 .ensures, c .before .before .before .before .before .before .before .before .before .before .before .before .flag3 .ensures, c .before .before .before .before .before .before .before .before .before .before .before .before .before .align-of .ensures, c .before .before .before .before .before .before .before .before .before .before .before .before .before .before .overflow-of .ensures, c .before .before .before .before .before .before .before .before .before .before .before .before .before .before .before .position-of .ensures, c .before .before .before .before .before .before .before .before .before .before .before .before .before .before .before .before .flag2 .ensures) (rw (c .before .before .before .before .before .before .before .before .before .before .before .before .before .before .before .before .before .flag .ensures, c .before .before .before .before .before .before .before .before .before .before .before .before .before .before .before .before .before .before .kind-of .ensures, c .before .before .before .before .before .before .before .before .before .before .before .before .before .before .before .before .before .before .before .word3 .ensures, c .before .before .before .before .before .before .before .before .before .before .before .before .before .before .before .before .before .before .before .before .word2 .ensures, c .before .before .before .before .before .before .before .before .before .before .before .before .before .before .before .before .before .before .before .before .before .word .ensures) (rw (size-first ws (a .i) xs (a .j) 0 (omega arith), size-first ws (a .i) xs (a .j) 2 (omega arith), size-first ws (a .i) xs (a .j) 4 (omega arith), rect-first ws (a .i) xs (a .j) 6 (omega arith), rect-first ws (a .i) xs (a .j) 10 (omega arith), rect-second ws (a .i) xs (a .j) 0, rect-second ws (a .i) xs (a .j) 4)))))
 
 pub style-at-spec : {M : Type 1} → statement M
 style-at-spec =
     tie.close
     (tie.spec
     word-requires
+    word-requires-2
+    word-requires-3
     kind-of-requires
     flag-requires
     flag-requires-2
@@ -77,14 +95,15 @@ style-at-spec =
     align-of-requires
     flag-requires-3
     flag-requires-4
-    size-at-requires
-    size-at-requires-2
-    size-at-requires-3
-    rect-at-requires
-    rect-at-requires-2
-    rect-at-requires-3
-    rect-at-requires-4
-    ratio-at-requires
-    number-requires
+    size-in-requires
+    size-in-requires-2
+    size-in-requires-3
+    rect-in-requires
+    rect-in-requires-2
+    rect-in-requires-3
+    rect-in-requires-4
+    number-in-requires
+    ratio-from-requires
+    number-in-requires-2
     measure-at-requires
     returns)

@@ -12,10 +12,10 @@ use Rattle.tables.proofs.numbers.first_bad_numbers.Statement.{statement
 use Rattle.tables.proofs.numbers.first_bad_numbers.Tie as tie
 
 abbrev Inv-loop : tie.InvT-loop
-Inv-loop words numbers n i₀ i = (i ≤ (nodesIn words)) × (scan (badNumbers words numbers) atNode Nowhere 0 (nodesIn words) ≡ scan (badNumbers words numbers) atNode Nowhere i ((nodesIn words) - i))
+Inv-loop words numbers n plane i₀ i = (i ≤ (nodesIn words)) × (scan (badNumbers words numbers) atNode Nowhere 0 (nodesIn words) ≡ scan (badNumbers words numbers) atNode Nowhere i ((nodesIn words) - i))
 
 abbrev μ-loop : tie.MeasureT-loop
-μ-loop words numbers n i₀ i = (nodesIn words) - i
+μ-loop words numbers n plane i₀ i = (nodesIn words) - i
 
 loop-holds : tie.Need-loop-holds Inv-loop μ-loop
 loop-holds c =
@@ -25,8 +25,8 @@ loop-holds c =
 bad-numbers-requires : tie.Need-bad-numbers-requires Inv-loop μ-loop
 bad-numbers-requires c κs = search needs
 
-cast-t8 : tie.Need-cast-t8 Inv-loop μ-loop
-cast-t8 c = omega arith
+cast-t9 : tie.Need-cast-t9 Inv-loop μ-loop
+cast-t9 c = omega arith
 
 returns : tie.Need-returns Inv-loop μ-loop
 returns c =
@@ -62,7 +62,7 @@ first-bad-numbers-spec =
     μ-loop
     loop-holds
     bad-numbers-requires
-    cast-t8
+    cast-t9
     returns
     add-i
     loop-less
