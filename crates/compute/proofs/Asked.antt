@@ -17,7 +17,7 @@ use Rattle.tree.specs.Tree.{Tree, Forest, node, countT, countF, flatT, flatF, m
 use Rattle.tree.proofs.Laws.{countT-node, flatT-node, mapT-node, onRoot-node}
 use Rattle.tree.proofs.Lists.{tail-part, tail-put}
 use Rattle.style.specs.Flow.{flowOf}
-use Rattle.steps.specs.Stack.{itemOf, questionTo, placeOf, stepped, lineOf, edgesOf, pastAside, pastHidden}
+use Rattle.steps.specs.Stack.{itemOf, childInput, questionTo, placeOf, stepped, lineOf, edgesOf, pastAside, pastHidden}
 use Rattle.steps.specs.Row.{Row, rowNumbers, rowWords, hiddenRow, asideRow, laidRow, putAt, noted, probeOf, outputIn}
 use Rattle.steps.specs.Page.{Cell, staying, anyT}
 use Rattle.steps.specs.Kept.{Laid, finalStands, editedNode, kept, keep, keptRow, zerosT, zerosF, fixF}
@@ -39,6 +39,11 @@ use Rattle.rows.specs.Store.{Becomes, Reads}
 use Rattle.compute.specs.Contract.{IsTree, placedIn, placedBy, placedT, AreT, LaidT, AskedT, PlacedT, Stands, LeafPut}
 use Rattle.compute.proofs.Shape.{sizes-mapF, same-countF}
 use Rattle.compute.proofs.OneTree.{flat-leaf, root-style}
+
+-- a question made of a child's item is step J's
+pub asks : (f : Frame) (s : Style) (i : BlockItem) (q : LayoutInput) → q ≡ childInput f s i → i ≡ itemOf f s → q ≡ questionTo f s
+unfolding questionTo
+asks f s i q h k = h ∙ ap (childInput f s) k
 
 kept-of : (l : Cell) (ks : Forest Cell) (q : LayoutInput) → kept (mapT staying (node l ks)) q ≡ (not (anyT editedNode (mapT staying (node l ks))) && finalStands q (l .old))
 unfolding kept rootT staying mapT

@@ -10,7 +10,8 @@ use borrow.Rule.Slice.PartMut.{putMid}
 use Rattle.geometry.specs.Geometry.{zeroF}
 use Rattle.util.specs.declared.OptionF32.{OptionF32}
 use Rattle.util.specs.declared.OptionF32.the-variants.{None, Some}
-use Rattle.style.specs.Style.{wordAt, styleAt}
+use Rattle.style.specs.Codes.{codeAt, kindOf}
+use Rattle.style.specs.Style.{wordAt, measureAt, styleAt}
 use Rattle.style.specs.declared.Style.{Style}
 use Rattle.tree.specs.Tree.{Tree, Forest, node, none, more, countT, countF, flatT, flatF, mapT, mapF, rootT, onRoot}
 use Rattle.tree.specs.Table.{from}
@@ -55,6 +56,15 @@ stay-probe l = refl
 pub root-style : (l : Cell) (ks : Forest Cell) → rootT (mapT staying (node l ks)) .site .style ≡ l .site .style
 unfolding rootT staying
 root-style l ks = rw (mapT-node staying l ks)
+
+-- kind and table of a style are those of its word and its numbers
+pub kind-is : (ws : List ℕ) (xs : List Float) (b : ℕ) → kindOf (codeAt (wordAt ws 0 1) 0) ≡ styleAt ws 0 xs b .kind
+unfolding styleAt
+kind-is ws xs b = refl
+
+pub measure-is : (ws : List ℕ) (xs : List Float) (b : ℕ) → measureAt xs b ≡ styleAt ws 0 xs b .measure
+unfolding styleAt
+measure-is ws xs b = refl
 
 -- a leaf
 leaf-out : (l : Node) (q : LayoutInput) (ks : Forest Node) → leafLaid l q ks .out ≡ leafOutput (l .site .style .measure) q

@@ -1,5 +1,8 @@
 // The final pass, in place: containers and stacks call each other (the crate's src/compute/block.rs).
 ghost use mathlib.Core.Path.{_≡_};
+ghost use Rattle.style.specs.Codes.{codeAt, kindOf};
+ghost use Rattle.style.specs.Flow.{isLeaf};
+ghost use Rattle.style.specs.Style.{wordAt};
 ghost use Rattle.rows.specs.Store.{OneRow};
 ghost use Rattle.steps.specs.Stack.{Counts};
 ghost use Rattle.walks.specs.Tables.{IsRows};
@@ -43,6 +46,13 @@ fn stands(rows: &[f32], marks: &[u32], edits: &[u32], base: usize, n: usize, q: 
     rows::final_stands(rows, marks, q)
 }
 
+// Is the first node a leaf?
+fn is_leaf(words: &[u32]) -> bool
+    ensures { λ r. ⌜ r ≡ isLeaf (kindOf (codeAt (wordAt (now (words .entry)) 0 1) 0)) ⌝ }
+{
+    style::is_leaf(style::kind_of(style::word(words, 0, 1)))
+}
+
 // One container: steps A to N.
 pub fn compute_block_layout(
     words: &[u32],
@@ -58,15 +68,12 @@ pub fn compute_block_layout(
     requires { ⌜ IsTree (now words) (now numbers) (now rows) (now marks) (now edits) base depth ⌝ }
     ensures { λ r. ⌜ LaidT (now (words .entry)) (now (numbers .entry)) (now (rows .entry)) (now (marks .entry)) (now (edits .entry)) base q found r (now (rows .exit)) (now (marks .exit)) ⌝ }
 {
-    let s = style::style_at(words, 0, numbers, base);
-    let kind = s.kind;
-    if style::is_leaf(kind) {
-        let m = s.measure;
-        let o = heights::leaf_output(m, q);
+    if is_leaf(words) {
+        let o = heights::leaf_at(numbers, base, q);
         put_leaf(rows, marks, q, o);
         return o;
     }
-    let f = frames::frame_of(s, q, found);
+    let f = frames::frame_at(words, numbers, base, q, found);
     let end = perform_final_layout_on_in_flow_children(
         &words[4..],
         numbers,
@@ -77,7 +84,7 @@ pub fn compute_block_layout(
         depth - 1,
         f,
     );
-    let d = heights::finish(s, q, f, end);
+    let d = heights::finish_at(words, numbers, base, q, f, end);
     let o = d.output;
     let shift = d.shift;
     rows::put_head(rows, marks, q, o);
@@ -156,9 +163,9 @@ fn perform_child_layout(
             stacking::past_aside(c)
         }
         Flow::In => {
-            let q = stacking::question_to(f, s);
-            let o = compute_child_layout(words, numbers, rows, marks, edits, base, depth, q);
             let i = stacking::item_of(f, s);
+            let q = stacking::child_input(f, s, i);
+            let o = compute_child_layout(words, numbers, rows, marks, edits, base, depth, q);
             let p = stacking::place_of(f, c, i, o);
             let shown = c.shown;
             rows::put_place(rows, marks, p, shown);

@@ -1,6 +1,7 @@
 // Step I: a container's frame (the crate's compute_inner up to its items).
 ghost use mathlib.Core.Path.{_≡_};
 ghost use Rattle.style.specs.Flow.{isIn};
+ghost use Rattle.style.specs.Style.{styleAt};
 ghost use Rattle.steps.specs.Context.{clips, isNormal, newContext, plainBlock};
 ghost use Rattle.steps.specs.Through.{openBox, hollowBox};
 ghost use Rattle.steps.specs.HeightBasis.{definiteOf, basisBelow};
@@ -199,4 +200,11 @@ pub fn frame_of(s: Style, q: LayoutInput, found: f32) -> Frame
     let known = sizing::known_dimensions(s, z, asked);
     let w = known.width;
     framed_by(s, q, z, known, w.unwrap_or(found))
+}
+
+// The frame of the first node here. Its style ends with this call, and is not held while children are laid out.
+pub fn frame_at(words: &[u32], numbers: &[f32], base: usize, q: LayoutInput, found: f32) -> Frame
+    ensures { λ r. ⌜ r ≡ frameOf (styleAt (now (words .entry)) 0 (now (numbers .entry)) base) q found ⌝ }
+{
+    frame_of(style::style_at(words, 0, numbers, base), q, found)
 }

@@ -1,6 +1,7 @@
 // Steps K to N: a container's height and its answer (the end of the crate's compute_inner); a leaf's answer.
 ghost use mathlib.Core.Path.{_≡_};
 ghost use mathlib.Core.Bool.{_||_};
+ghost use Rattle.style.specs.Style.{measureAt, styleAt};
 ghost use Rattle.steps.specs.Stack.{atTop};
 ghost use Rattle.steps.specs.Through.{stepN, passedOut, outputOf, finished, leafOutput};
 ghost use Rattle.steps.specs.Height.{extraOf, stepK, stepL, heldOpen, stillOwnEnd, stepM};
@@ -144,6 +145,20 @@ pub fn finish(s: Style, q: LayoutInput, f: Frame, c: Cursor) -> Finished
     }
 }
 
+// Steps K to N of the first node here, whose style was not held.
+pub fn finish_at(
+    words: &[u32],
+    numbers: &[f32],
+    base: usize,
+    q: LayoutInput,
+    f: Frame,
+    c: Cursor,
+) -> Finished
+    ensures { λ r. ⌜ r ≡ finished (styleAt (now (words .entry)) 0 (now (numbers .entry)) base) q f c ⌝ }
+{
+    finish(style::style_at(words, 0, numbers, base), q, f, c)
+}
+
 // A leaf's answer.
 pub fn leaf_output(m: Measure, q: LayoutInput) -> LayoutOutput
     ensures { λ r. ⌜ r ≡ leafOutput m q ⌝ }
@@ -162,4 +177,21 @@ pub fn leaf_output(m: Measure, q: LayoutInput) -> LayoutOutput
         bottom: CollapsibleMarginSet::zero(),
         through: false,
     }
+}
+
+fn measure_of(numbers: &[f32], j: usize) -> Measure
+    ensures { λ r. ⌜ r ≡ measureAt (now (numbers .entry)) j ⌝ }
+{
+    Measure {
+        least: style::number(numbers, j, 24),
+        most: style::number(numbers, j, 25),
+        height: style::number(numbers, j, 26),
+    }
+}
+
+// The answer of leaf j: of its style it asks its table alone.
+pub fn leaf_at(numbers: &[f32], j: usize, q: LayoutInput) -> LayoutOutput
+    ensures { λ r. ⌜ r ≡ leafOutput (measureAt (now (numbers .entry)) j) q ⌝ }
+{
+    leaf_output(measure_of(numbers, j), q)
 }

@@ -143,9 +143,9 @@ fn passed(words: &[u32], numbers: &[f32], base: usize, depth: usize, f: Frame, c
         Flow::Gone => stacking::past_hidden(c),
         Flow::Out => stacking::past_aside(c),
         Flow::In => {
-            let q = stacking::question_to(f, s);
-            let o = measured(words, numbers, base, depth, q, 0.0);
             let i = stacking::item_of(f, s);
+            let q = stacking::child_input(f, s, i);
+            let o = measured(words, numbers, base, depth, q, 0.0);
             stacking::stepped_past(f, c, i, o)
         }
     }

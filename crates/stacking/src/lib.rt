@@ -2,7 +2,7 @@
 ghost use mathlib.Core.Path.{_≡_};
 ghost use mathlib.Core.Bool.{cond};
 ghost use Prim.Native.Nat.{_+_, _<_};
-ghost use Rattle.steps.specs.Stack.{innerWidth, startOf, negOpt, offsetX, relativeOffset, offsetBy, itemOf, askedWidth, askedHeight, childInput, questionTo, topMargins, bottomMargins, atTop, gapOf, freeOf, shareOf, placeX, placeY, placeOf, pastThrough, pastBox, stepped, lineOf, edgesOf, pastAside, pastHidden, Counts};
+ghost use Rattle.steps.specs.Stack.{innerWidth, startOf, negOpt, offsetX, relativeOffset, offsetBy, itemOf, askedWidth, askedHeight, childInput, topMargins, bottomMargins, atTop, gapOf, freeOf, shareOf, placeX, placeY, placeOf, pastThrough, pastBox, stepped, lineOf, edgesOf, pastAside, pastHidden, Counts};
 use geometry::Line;
 use geometry::Point;
 use length::AvailableSpace;
@@ -142,7 +142,8 @@ fn asked_height(i: BlockItem) -> OptionF32
     h.clamp(lo, hi).floor(both.vertical_axis_sum())
 }
 
-fn child_input(f: Frame, s: Style, i: BlockItem) -> LayoutInput
+// The final question that a container puts to a child, of its item.
+pub fn child_input(f: Frame, s: Style, i: BlockItem) -> LayoutInput
     ensures { λ r. ⌜ r ≡ childInput f s i ⌝ }
 {
     let plain = frames::is_plain_block(s);
@@ -162,13 +163,6 @@ fn child_input(f: Frame, s: Style, i: BlockItem) -> LayoutInput
         collapseEnd: plain,
         nested: true,
     }
-}
-
-// The final question that a container puts to a child.
-pub fn question_to(f: Frame, s: Style) -> LayoutInput
-    ensures { λ r. ⌜ r ≡ questionTo f s ⌝ }
-{
-    child_input(f, s, item_of(f, s))
 }
 
 fn top_margins(i: BlockItem, o: LayoutOutput) -> CollapsibleMarginSet

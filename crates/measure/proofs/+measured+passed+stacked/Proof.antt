@@ -27,7 +27,8 @@ use Rattle.heights.proofs.leaf_output.Reads as leaf-output-reads
 use Rattle.stacking.proofs.item_of.Reads as item-of-reads
 use Rattle.stacking.proofs.past_aside.Reads as past-aside-reads
 use Rattle.stacking.proofs.past_hidden.Reads as past-hidden-reads
-use Rattle.stacking.proofs.question_to.Reads as question-to-reads
+use Rattle.stacking.proofs.child_input.Reads as child-input-reads
+use Rattle.compute.proofs.Asked.{asks}
 use Rattle.stacking.proofs.start_of.Reads as start-of-reads
 use Rattle.stacking.proofs.stepped_past.Reads as stepped-past-reads
 use Rattle.style.proofs.style_at.Reads as style-at-reads
@@ -108,7 +109,7 @@ measured-returns-2 : (t : ℕ) → measured-lts.Need-returns-2 (measured-calls t
 measured-returns-2 t c = let s = c .before .before .before .before .before .before .before .before .before .before in block-measured (s .args .words .now) (s .args .numbers .now) (s .args .base) _ (c .before .before .before .before .before .before .before .style-at .ensures) (s .args .q) (s .args .found) _ _ _ (sym (c .before .before .before .before .before .before .is-leaf .ensures) ∙ c .before .before .before .before .before .if1 .left) (c .before .before .before .before .frame-of .ensures) (c .before .before .stacked .ensures) (c .before .finish .ensures)
 
 abbrev passed-calls : ℕ → passed-lts.Claims
-passed-calls t = (style-at-reads.Asked, style-at-reads.Learnt, flow-of-reads.Asked, flow-of-reads.Learnt, past-hidden-reads.Asked, past-hidden-reads.Learnt, past-aside-reads.Asked, past-aside-reads.Learnt, question-to-reads.Asked, question-to-reads.Learnt, measured-below t, measured.Post, item-of-reads.Asked, item-of-reads.Learnt, stepped-past-reads.Asked, stepped-past-reads.Learnt)
+passed-calls t = (style-at-reads.Asked, style-at-reads.Learnt, flow-of-reads.Asked, flow-of-reads.Learnt, past-hidden-reads.Asked, past-hidden-reads.Learnt, past-aside-reads.Asked, past-aside-reads.Learnt, item-of-reads.Asked, item-of-reads.Learnt, child-input-reads.Asked, child-input-reads.Learnt, measured-below t, measured.Post, stepped-past-reads.Asked, stepped-past-reads.Learnt)
 
 passed-style-at-requires : (t : ℕ) → passed-lts.Need-style-at-requires (passed-calls t) (passed-at t) passed.Post
 passed-style-at-requires t c κs = search needs
@@ -131,11 +132,11 @@ passed-past-aside-requires t c κs = c .before .before .before .before .before .
 passed-enum-told-3 : (t : ℕ) → passed-lts.Need-enum-told-3 (passed-calls t) (passed-at t) passed.Post
 passed-enum-told-3 t c = search needs
 
-passed-question-to-requires : (t : ℕ) → passed-lts.Need-question-to-requires (passed-calls t) (passed-at t) passed.Post
-passed-question-to-requires t c κs = search needs
+passed-child-input-requires : (t : ℕ) → passed-lts.Need-child-input-requires (passed-calls t) (passed-at t) passed.Post
+passed-child-input-requires t c κs = search needs
 
 passed-measured-requires : (t : ℕ) → passed-lts.Need-measured-requires (passed-calls t) (passed-at t) passed.Post
-passed-measured-requires t c κs = (omega (arith, c .before .before .before .before .before .before .before .pre .0), (c .before .before .before .before .before .before .before .pre .1 .0))
+passed-measured-requires t c κs = (omega (arith, c .before .before .before .before .before .before .before .before .pre .0), (c .before .before .before .before .before .before .before .before .pre .1 .0))
 
 passed-item-of-requires : (t : ℕ) → passed-lts.Need-item-of-requires (passed-calls t) (passed-at t) passed.Post
 passed-item-of-requires t c κs = search needs
@@ -150,7 +151,7 @@ passed-returns-2 : (t : ℕ) → passed-lts.Need-returns-2 (passed-calls t) (pas
 passed-returns-2 t c = let s = c .before .before .before .before .before .before .before in out-passed (s .args .words .now) (s .args .numbers .now) (s .args .base) _ (c .before .before .before .before .style-at .ensures) (s .args .f) (s .args .c) _ (c .before .before .before .flow-of .ensures) _ (c .before .enum-told2 .given .1) (c .past-aside .ensures)
 
 passed-returns-3 : (t : ℕ) → passed-lts.Need-returns-3 (passed-calls t) (passed-at t) passed.Post
-passed-returns-3 t c = let s = c .before .before .before .before .before .before .before .before .before .before in in-passed (s .args .words .now) (s .args .numbers .now) (s .args .base) _ (c .before .before .before .before .before .before .before .style-at .ensures) (s .args .f) (s .args .c) _ (c .before .before .before .before .before .before .flow-of .ensures) _ _ _ _ (c .before .before .before .before .enum-told3 .given .1) (c .before .before .before .question-to .ensures) (c .before .before .measured .ensures) (c .before .item-of .ensures) (c .stepped-past .ensures)
+passed-returns-3 t c = let s = c .before .before .before .before .before .before .before .before .before .before in in-passed (s .args .words .now) (s .args .numbers .now) (s .args .base) _ (c .before .before .before .before .before .before .before .style-at .ensures) (s .args .f) (s .args .c) _ (c .before .before .before .before .before .before .flow-of .ensures) _ _ _ _ (c .before .before .before .before .enum-told3 .given .1) (asks _ _ _ _ (c .before .before .child-input .ensures) (c .before .before .before .item-of .ensures)) (c .before .measured .ensures) (c .before .before .before .item-of .ensures) (c .stepped-past .ensures)
 
 abbrev stacked-calls : ℕ → stacked-lts.Claims
 stacked-calls t = (start-of-reads.Asked, start-of-reads.Learnt, word-reads.Asked, word-reads.Learnt, passed-below t, passed.Post)
@@ -247,9 +248,9 @@ pub +measured+passed+stacked-spec : {M : Type 1} → statement M
     (passed-enum-told-2 t)
     (passed-past-aside-requires t)
     (passed-enum-told-3 t)
-    (passed-question-to-requires t)
-    (passed-measured-requires t)
     (passed-item-of-requires t)
+    (passed-child-input-requires t)
+    (passed-measured-requires t)
     (passed-stepped-past-requires t)
     (passed-returns t)
     (passed-returns-2 t)

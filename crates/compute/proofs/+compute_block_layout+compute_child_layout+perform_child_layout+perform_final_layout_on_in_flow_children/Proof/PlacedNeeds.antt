@@ -2,7 +2,7 @@
 use native.Mathlib.Omega.{arith}
 use borrow.Author.Needs.{needs}
 use Rattle.walks.proofs.Given.{facts}
-use Rattle.compute.proofs.Asked.{gone-placed, out-placed, in-placed}
+use Rattle.compute.proofs.Asked.{gone-placed, out-placed, in-placed, asks}
 use Prim.Native.Nat.{ℕ}
 use borrow.Fn.Kinds.{In}
 use Rattle.rows.proofs.put_aside.Reads as put-aside-reads
@@ -14,7 +14,7 @@ use Rattle.stacking.proofs.line_of.Reads as line-of-reads
 use Rattle.stacking.proofs.past_aside.Reads as past-aside-reads
 use Rattle.stacking.proofs.past_hidden.Reads as past-hidden-reads
 use Rattle.stacking.proofs.place_of.Reads as place-of-reads
-use Rattle.stacking.proofs.question_to.Reads as question-to-reads
+use Rattle.stacking.proofs.child_input.Reads as child-input-reads
 use Rattle.stacking.proofs.stepped_past.Reads as stepped-past-reads
 use Rattle.style.proofs.style_at.Reads as style-at-reads
 use Rattle.style.proofs.flow_of.Reads as flow-of-reads
@@ -29,7 +29,7 @@ module _ (t : ℕ) where
   here = placed-at t
 
   abbrev calls : lts.Claims
-  calls = (style-at-reads.Asked, style-at-reads.Learnt, flow-of-reads.Asked, flow-of-reads.Learnt, put-hidden-reads.Asked, put-hidden-reads.Learnt, past-hidden-reads.Asked, past-hidden-reads.Learnt, edges-of-reads.Asked, edges-of-reads.Learnt, line-of-reads.Asked, line-of-reads.Learnt, put-aside-reads.Asked, put-aside-reads.Learnt, past-aside-reads.Asked, past-aside-reads.Learnt, question-to-reads.Asked, question-to-reads.Learnt, asked-below t, asked-reads.Post, item-of-reads.Asked, item-of-reads.Learnt, place-of-reads.Asked, place-of-reads.Learnt, put-place-reads.Asked, put-place-reads.Learnt, stepped-past-reads.Asked, stepped-past-reads.Learnt)
+  calls = (style-at-reads.Asked, style-at-reads.Learnt, flow-of-reads.Asked, flow-of-reads.Learnt, put-hidden-reads.Asked, put-hidden-reads.Learnt, past-hidden-reads.Asked, past-hidden-reads.Learnt, edges-of-reads.Asked, edges-of-reads.Learnt, line-of-reads.Asked, line-of-reads.Learnt, put-aside-reads.Asked, put-aside-reads.Learnt, past-aside-reads.Asked, past-aside-reads.Learnt, item-of-reads.Asked, item-of-reads.Learnt, child-input-reads.Asked, child-input-reads.Learnt, asked-below t, asked-reads.Post, place-of-reads.Asked, place-of-reads.Learnt, put-place-reads.Asked, put-place-reads.Learnt, stepped-past-reads.Asked, stepped-past-reads.Learnt)
 
   style-at-requires : lts.Need-style-at-requires calls here reads.Post
   style-at-requires c κs = search needs
@@ -64,11 +64,11 @@ module _ (t : ℕ) where
   enum-told-3 : lts.Need-enum-told-3 calls here reads.Post
   enum-told-3 c = search needs
 
-  question-to-requires : lts.Need-question-to-requires calls here reads.Post
-  question-to-requires c κs = search needs
+  child-input-requires : lts.Need-child-input-requires calls here reads.Post
+  child-input-requires c κs = search needs
 
   compute-child-layout-requires : lts.Need-compute-child-layout-requires calls here reads.Post
-  compute-child-layout-requires c κs = (omega (arith, c .before .before .before .before .before .before .before .before .before .before .before .before .pre .0), (c .before .before .before .before .before .before .before .before .before .before .before .before .pre .1 .0))
+  compute-child-layout-requires c κs = (omega (arith, c .before .before .before .before .before .before .before .before .before .before .before .before .before .pre .0), (c .before .before .before .before .before .before .before .before .before .before .before .before .before .pre .1 .0))
 
   item-of-requires : lts.Need-item-of-requires calls here reads.Post
   item-of-requires c κs = search needs
@@ -115,7 +115,7 @@ module _ (t : ℕ) where
       out-placed (s .args .words .now) (s .args .numbers .now) (s .args .rows .now) (s .args .marks .now) (s .args .edits .now) (s .args .base) (s .args .f) (s .args .c) _ _ (at-style-at .style-at .ensures) (at-flow-of .flow-of .ensures) _ _ _ _ _ (at-enum-told2 .enum-told2 .given .1) (c .past-aside .ensures) (at-edges-of .edges-of .ensures) (at-line-of .line-of .ensures) (at-put-aside .put-aside .ensures .0) (at-put-aside .put-aside .ensures .1)
 
   same-length-5 : lts.Need-same-length-5 calls here reads.Post
-  same-length-5 c = omega (arith, c .before .before .before .before .before .put-place .kept, c .before .before .before .before .before .before .before .before .before .before .before .before .before .before .before .compute-child-layout .kept)
+  same-length-5 c = omega (arith, c .before .before .before .before .before .put-place .kept, c .before .before .before .before .before .before .before .before .before .before .before .before .before .before .compute-child-layout .kept)
 
   same-length-6 : lts.Need-same-length-6 calls here reads.Post
   same-length-6 c = let f = facts _ _ _ _ _ _ _ (c .before .before .before .before .before .before .before .before .before .before .before .before .before .before .before .before .before .before .before .before .before .before .before .before .before .before .before .before .pre .1 .0) in omega arith
@@ -124,14 +124,14 @@ module _ (t : ℕ) where
   returns-3 c =
       let at-put-place = c .before .before .before .before .before in
       let at-place-of = at-put-place .before .before .before .before in
-      let at-item-of = at-place-of .before in
-      let at-compute-child-layout = at-item-of .before .before .before .before .before in
-      let at-question-to = at-compute-child-layout .before .before .before in
-      let at-enum-told3 = at-question-to .before in
+      let at-compute-child-layout = at-place-of .before .before .before .before .before in
+      let at-child-input = at-compute-child-layout .before .before .before in
+      let at-item-of = at-child-input .before in
+      let at-enum-told3 = at-item-of .before in
       let at-flow-of = at-enum-told3 .before .before in
       let at-style-at = at-flow-of .before in
       let s = at-style-at .before .before .before .before .before .before in
-      in-placed (s .args .words .now) (s .args .numbers .now) (s .args .rows .now) (s .args .marks .now) (s .args .edits .now) (s .args .base) (s .args .f) (s .args .c) _ _ (at-style-at .style-at .ensures) (at-flow-of .flow-of .ensures) _ _ _ _ _ _ _ _ _ (at-enum-told3 .enum-told3 .given .1) (at-question-to .question-to .ensures) (at-compute-child-layout .compute-child-layout .ensures) (at-item-of .item-of .ensures) (at-place-of .place-of .ensures) (at-put-place .put-place .ensures) (c .stepped-past .ensures)
+      in-placed (s .args .words .now) (s .args .numbers .now) (s .args .rows .now) (s .args .marks .now) (s .args .edits .now) (s .args .base) (s .args .f) (s .args .c) _ _ (at-style-at .style-at .ensures) (at-flow-of .flow-of .ensures) _ _ _ _ _ _ _ _ _ (at-enum-told3 .enum-told3 .given .1) (asks _ _ _ _ (at-child-input .child-input .ensures) (at-item-of .item-of .ensures)) (at-compute-child-layout .compute-child-layout .ensures) (at-item-of .item-of .ensures) (at-place-of .place-of .ensures) (at-put-place .put-place .ensures) (c .stepped-past .ensures)
 
   pub placed-meets : {M : Type 1} → lts.Closed calls here reads.Post M
   placed-meets =
@@ -147,9 +147,9 @@ module _ (t : ℕ) where
       put-aside-requires
       past-aside-requires
       enum-told-3
-      question-to-requires
-      compute-child-layout-requires
       item-of-requires
+      child-input-requires
+      compute-child-layout-requires
       place-of-requires
       put-place-requires
       stepped-past-requires

@@ -1,0 +1,15 @@
+use borrow.Author.Needs.{needs}
+use Rattle.frames.proofs.frame_at.Statement.{statement}
+use Rattle.frames.proofs.frame_at.Tie as tie
+
+style-at-requires : tie.Need-style-at-requires
+style-at-requires c κs = search needs
+
+frame-of-requires : tie.Need-frame-of-requires
+frame-of-requires c κs = search needs
+
+returns : tie.Need-returns
+returns c = rw (c .frame-of .ensures, c .before .style-at .ensures)
+
+pub frame-at-spec : {M : Type 1} → statement M
+frame-at-spec = tie.close (tie.spec style-at-requires frame-of-requires returns)
