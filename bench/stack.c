@@ -15,6 +15,7 @@ static struct mearrasot_question asked;
 static uint32_t edits[1];
 static float size[2], edge[3];
 static uint64_t found[1];
+static int32_t pixels[MEARRASOT_PIXEL_BOX * MEARRASOT_MAX_DEPTH];
 static uint64_t answer;
 
 static void lay(void) {
@@ -36,6 +37,10 @@ static void index_of_one(void) {
 
 static void scroll(void) {
     answer = mearrasot_scroll(edge, 3, 0, found);
+}
+
+static void coarse(void) {
+    answer = mearrasot_coarse_page(&page, pixels);
 }
 
 static void on_stack(void (*call)(void)) {
@@ -80,6 +85,7 @@ static void show_all(size_t depth, uint32_t style, const char *last) {
         show("  layout", known, lay);
         show("  relayout", known, relay);
         show("  size", known, measure);
+        show("  coarse", known, coarse);
         if (style == 0) {
             show("  index", known, index_of_one);
             show("  scroll", known, scroll);

@@ -6,8 +6,8 @@
 # was not there when this was tried, as it might depend on the size of a pointer.
 BEGIN {
     kind["call"] = kind["store"] = kind["br"] = kind["ret"] = kind["switch"] = kind["unreachable"] = "void"
-    n = split("add alloca and bitcast call fadd fcmp fdiv fmul fneg fsub getelementptr icmp load lshr mul or sub " \
-              "trunc udiv urem xor zext", ops, " ")
+    n = split("add alloca and bitcast call fadd fcmp fdiv fmul fneg fsub getelementptr icmp load lshr mul or shl " \
+              "sub trunc udiv urem xor zext", ops, " ")
     for (k = 1; k <= n; k++) value[ops[k]] = 1
     # What include/mearrasot.h declares; 's' is a pointer and its count of 64 bits.
     want["mearrasot_layout"] = "s s s s s s float float float float i32"
@@ -15,6 +15,7 @@ BEGIN {
     want["mearrasot_size"] = "s s ptr float float float float i32"
     want["mearrasot_index"] = "s s s s s s s"
     want["mearrasot_scroll"] = "s float ptr"
+    want["mearrasot_coarse"] = "s s s s"
 }
 function stop(why) {
     print "convert: line " NR ": " why ": " substr($0, 1, 120) > "/dev/stderr"
@@ -101,8 +102,8 @@ function stop(why) {
 { stop("an unknown line") }
 END {
     if (bad) exit 1
-    if (changed != 3 || exported != 5) {
-        print "convert: " changed + 0 " of 3 lines changed, " exported + 0 " of 5 functions exported" > "/dev/stderr"
+    if (changed != 3 || exported != 6) {
+        print "convert: " changed + 0 " of 3 lines changed, " exported + 0 " of 6 functions exported" > "/dev/stderr"
         exit 1
     }
     print "convert: " functions " functions, " instructions " instructions, 3 lines changed" > "/dev/stderr"

@@ -20,6 +20,7 @@ static struct mearrasot_question asked;
 static uint32_t edit;
 static float size[2], edge[3];
 static uint64_t found[1], answer;
+static int32_t pixels[MEARRASOT_PIXEL_BOX * MEARRASOT_MAX_DEPTH];
 
 static void nothing(void) {
 }
@@ -43,6 +44,10 @@ static void index_of_one(void) {
 
 static void scroll(void) {
     answer = mearrasot_scroll(edge, 1, 0, found);
+}
+
+static void coarse(void) {
+    answer = mearrasot_coarse_page(&page, pixels);
 }
 
 /* A thousand times two instructions, to see that the timer counts as said. */
@@ -141,6 +146,7 @@ int main(void) {
     stack("size", measure);
     stack("index", index_of_one);
     stack("scroll", scroll);
+    stack("coarse", coarse);
     printf("cost: done\n");
     return 0;
 }

@@ -5,7 +5,8 @@
  *
  * For each page: a layout over garbage, three relayouts with edits, each asked
  * as it likes, a relayout of garbage rows, two size questions, an index and
- * scroll keys, and a call with damaged tables.
+ * scroll keys, whole pixels of a page and of garbage rows, and a call with
+ * damaged tables.
  */
 #include <stdio.h>
 #include <string.h>
@@ -28,7 +29,7 @@ static uint32_t marks[MEARRASOT_MARKS * N], pairs[MEARRASOT_PAIR * N];
 static uint32_t n;
 static int vast; /* this page has numbers so large that a result may be refused with 8 */
 static uint64_t state = SEED;
-static unsigned long calls, by_answer[11];
+static unsigned long calls, by_answer[13];
 static FILE *out;
 static char room[1 << 16];
 
@@ -168,7 +169,7 @@ static void put_answer(uint64_t answer) {
     halves[1] = mearrasot_place(answer);
     put(halves, 2);
     calls++;
-    by_answer[halves[0] <= 10 ? halves[0] : 10]++;
+    by_answer[halves[0] <= 12 ? halves[0] : 12]++;
 }
 
 static void put_all(uint64_t answer) {
@@ -209,6 +210,12 @@ static void index_of_page(const struct mearrasot_page *p) {
     put(found, 2);
 }
 
+static void coarse_page(const struct mearrasot_page *p) {
+    static int32_t boxes[MEARRASOT_PIXEL_BOX * N];
+    put_answer(mearrasot_coarse_page(p, boxes));
+    put(boxes, MEARRASOT_PIXEL_BOX * n);
+}
+
 static void damaged(const struct mearrasot_page *p) {
     const struct mearrasot_question q = ask();
     uint32_t bit, change = below(3);
@@ -246,6 +253,7 @@ static void one_page(void) {
     garbage(marks, MEARRASOT_MARKS * n);
     put_all(mearrasot_layout_page(&p, ask()));
     index_of_page(&p);
+    coarse_page(&p);
     for (time = 0; time < 3; time++) {
         count = below(5);
         for (k = 0; k < count; k++) {
@@ -260,6 +268,7 @@ static void one_page(void) {
     garbage(rows, MEARRASOT_ROW * n);
     garbage(marks, MEARRASOT_MARKS * n);
     marks[MEARRASOT_M_BITS] |= MEARRASOT_LAID;
+    coarse_page(&p);
     put_all(mearrasot_relayout_page(&p, edits, 1 <= count ? 1 : 0, ask()));
 }
 
@@ -279,7 +288,7 @@ int main(void) {
         return 1;
     }
     printf("pages: %lu pages, %lu calls, %lu bytes; answers", (unsigned long)PAGES, calls, k);
-    for (k = 0; k <= 10; k++) {
+    for (k = 0; k <= 12; k++) {
         printf(" %lu:%lu", k, by_answer[k]);
     }
     printf("\n");

@@ -24,7 +24,7 @@ extern "C" {
  * is not in the archive: take header and archive from the same commit.
  */
 #define MEARRASOT_VERSION_MAJOR 2
-#define MEARRASOT_VERSION_MINOR 0
+#define MEARRASOT_VERSION_MINOR 1
 #define MEARRASOT_VERSION_PATCH 0
 
 /* ---- Limits ---- */
@@ -42,6 +42,7 @@ extern "C" {
 #define MEARRASOT_MARKS 2    /* uint32_t for each node */
 #define MEARRASOT_PAIR 2     /* uint32_t for each record */
 #define MEARRASOT_TRIPLE 3   /* float for each record */
+#define MEARRASOT_PIXEL_BOX 4 /* int32_t for each node, of mearrasot_coarse alone */
 
 /*
  * Nodes stand in preorder: a node, then all that is below its first child,
@@ -220,17 +221,18 @@ enum mearrasot_row {
  * are tested in this order; each is given exactly if it is due.
  */
 enum mearrasot_answer {
-    MEARRASOT_DONE = 0,       /* accepted; place: the count of candidates, 0 for a size, an index, a scroll key */
+    MEARRASOT_DONE = 0,       /* accepted; place: the count of candidates, 0 for a size, an index, a scroll key, whole pixels */
     MEARRASOT_LENGTHS = 1,    /* no node, over 1,024, or tables not of n nodes; place 0 */
     MEARRASOT_TREE = 2,       /* a subtree's size is wrong, a leaf has children, over 32 levels; place: the lowest such node */
     MEARRASOT_CODES = 3,      /* unknown code, unused bit, forbidden unit, root not a block, ratio beside a fraction of a height; the lowest node */
     MEARRASOT_BAD_NUMBER = 4, /* NaN, infinite or out of range; the lowest node, n for the question */
     MEARRASOT_ROOM = 5,       /* too few records lent; place 0. Not by mearrasot_size */
     MEARRASOT_EDITS = 6,      /* an edit that is no node, or over 64; its index, or 64. mearrasot_relayout alone */
-    MEARRASOT_NOT_LAID = 7,   /* the root's row was not laid; place 0. mearrasot_relayout and mearrasot_index */
+    MEARRASOT_NOT_LAID = 7,   /* the root's row was not laid; place 0. mearrasot_relayout, mearrasot_index and mearrasot_coarse */
     MEARRASOT_TOO_LARGE = 8,  /* a result of 16,777,216 or more; the lowest node, 0 for a size */
     MEARRASOT_BAD_LIST = 9,   /* over 256 leaves, not ascending, no node, no leaf, not laid; its index, or 256. mearrasot_index alone */
-    MEARRASOT_NOT_FINITE = 10 /* y is NaN or infinite; place 0. mearrasot_scroll alone */
+    MEARRASOT_NOT_FINITE = 10, /* y is NaN or infinite; place 0. mearrasot_scroll alone */
+    MEARRASOT_TOO_FAR = 12    /* an edge on the page of 16,777,216 or more; the lowest laid node. mearrasot_coarse alone */
 };
 
 static inline uint32_t mearrasot_number(uint64_t answer) {
@@ -319,6 +321,25 @@ uint64_t mearrasot_index(const uint32_t *words, uint64_t words_len,
 #define MEARRASOT_NONE UINT64_MAX
 uint64_t mearrasot_scroll(const float *running, uint64_t running_len, float y,
                           uint64_t found[1]);
+
+/*
+ * A panel with no blending: each laid node as a box of whole pixels, near x,
+ * near y, width and height in pixels[4 * node] and on; 0 for other nodes. An
+ * edge on the page goes to the nearest whole pixel, halves up; a size is the
+ * difference of two such edges. So boxes whose edges are the same number on the
+ * page share an edge here, and a size may be a pixel more or less than its own
+ * nearest. A refusal (1, 2, 3, 7, 12) leaves pixels as it was.
+ */
+enum mearrasot_pixel_box {
+    MEARRASOT_B_X = 0,
+    MEARRASOT_B_Y = 1,
+    MEARRASOT_B_WIDTH = 2,
+    MEARRASOT_B_HEIGHT = 3
+};
+uint64_t mearrasot_coarse(const uint32_t *words, uint64_t words_len,
+                          const float *rows, uint64_t rows_len,
+                          const uint32_t *marks, uint64_t marks_len,
+                          int32_t *pixels, uint64_t pixels_len);
 
 #ifdef __cplusplus
 }

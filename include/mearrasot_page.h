@@ -350,12 +350,23 @@ static inline uint64_t mearrasot_lay(struct mearrasot_builder *b, struct mearras
     return answer;
 }
 
+/*
+ * The page on the coarse panel, once it is laid out: four entries of pixels for
+ * each node. mearrasot_pixels_of reads a node, mearrasot_drawn_coarse goes from
+ * box to box.
+ */
+static inline uint64_t mearrasot_show_coarse(const struct mearrasot_builder *b, int32_t *pixels) {
+    const struct mearrasot_page p = mearrasot_page_of(b);
+    return mearrasot_coarse_page(&p, pixels);
+}
+
 /* An answer in words; its place says where. */
 static inline const char *mearrasot_text(uint64_t answer) {
     static const char *const texts[] = {
         "done", "tables of a wrong length", "not a tree", "unknown code or forbidden unit",
         "number out of range", "too few records lent", "bad edit list", "nothing kept",
-        "result too large", "bad list of leaves", "y is not finite"
+        "result too large", "bad list of leaves", "y is not finite", "unknown answer",
+        "edge too far for whole pixels"
     };
     static const char *const faults[] = {
         "no fault", "no room for another node", "too many levels", "root no block, or a second root",

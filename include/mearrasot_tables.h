@@ -20,6 +20,7 @@ extern "C" {
 #define MEARRASOT_MARKS_BYTES(n) (4u * MEARRASOT_MARKS * (n))
 #define MEARRASOT_PAIRS_BYTES(n) (4u * MEARRASOT_PAIR * (n))
 #define MEARRASOT_TRIPLES_BYTES(n) (4u * MEARRASOT_TRIPLE * (n))
+#define MEARRASOT_PIXELS_BYTES(n) (4u * MEARRASOT_PIXEL_BOX * (n))
 /* What a page takes in all, and how much of that has to be writable. */
 #define MEARRASOT_PAGE_BYTES(nodes, records) \
     (MEARRASOT_WORDS_BYTES(nodes) + MEARRASOT_NUMBERS_BYTES(nodes) + MEARRASOT_WRITTEN_BYTES(nodes, records))
@@ -252,6 +253,18 @@ static inline uint64_t mearrasot_index_page(const struct mearrasot_page *p,
         MEARRASOT_SLICE(l->running, l->count, number));
 }
 
+/* pixels has four entries for each node of the page. */
+static inline uint64_t mearrasot_coarse_page(const struct mearrasot_page *p, int32_t *pixels) {
+    uint32_t word[1] = {0};
+    float number[1] = {0};
+    int32_t pixel[1] = {0};
+    return mearrasot_coarse(
+        MEARRASOT_SLICE(p->words, MEARRASOT_WORDS * p->nodes, word),
+        MEARRASOT_SLICE(p->rows, MEARRASOT_ROW * p->nodes, number),
+        MEARRASOT_SLICE(p->marks, MEARRASOT_MARKS * p->nodes, word),
+        MEARRASOT_SLICE(pixels, MEARRASOT_PIXEL_BOX * p->nodes, pixel));
+}
+
 /* ---- A part of a page ---- */
 
 /*
@@ -341,6 +354,28 @@ static inline struct mearrasot_box mearrasot_box_of(const struct mearrasot_page 
     return box;
 }
 
+/* A box in whole pixels, as mearrasot_coarse gives it. */
+struct mearrasot_pixels {
+    int32_t x;
+    int32_t y;
+    int32_t width;
+    int32_t height;
+};
+
+/* A node on the coarse panel, of pixels that are made; all 0 if it is not laid. */
+static inline struct mearrasot_pixels mearrasot_pixels_of(const struct mearrasot_page *p, const int32_t *pixels,
+                                                          uint32_t node) {
+    struct mearrasot_pixels box = {0, 0, 0, 0};
+    if (node < p->nodes) {
+        const int32_t *at = pixels + MEARRASOT_PIXEL_BOX * node;
+        box.x = at[MEARRASOT_B_X];
+        box.y = at[MEARRASOT_B_Y];
+        box.width = at[MEARRASOT_B_WIDTH];
+        box.height = at[MEARRASOT_B_HEIGHT];
+    }
+    return box;
+}
+
 /*
  * The first box to draw from that node on: laid, and of some width and height.
  * for (n = mearrasot_drawn(p, 0); n != MEARRASOT_NO_NODE; n = mearrasot_drawn(p, n + 1))
@@ -350,6 +385,18 @@ static inline uint32_t mearrasot_drawn(const struct mearrasot_page *p, uint32_t 
     for (n = from; n < p->nodes; n++) {
         const float *row = p->rows + MEARRASOT_ROW * n;
         if (mearrasot_is_laid(p, n) && row[MEARRASOT_R_WIDTH] > 0.0f && row[MEARRASOT_R_HEIGHT] > 0.0f) {
+            return n;
+        }
+    }
+    return MEARRASOT_NO_NODE;
+}
+
+/* Likewise on the coarse panel: some pixels wide and high. A hairline may have none. */
+static inline uint32_t mearrasot_drawn_coarse(const struct mearrasot_page *p, const int32_t *pixels, uint32_t from) {
+    uint32_t n;
+    for (n = from; n < p->nodes; n++) {
+        const struct mearrasot_pixels box = mearrasot_pixels_of(p, pixels, n);
+        if (box.width > 0 && box.height > 0) {
             return n;
         }
     }

@@ -56,6 +56,23 @@ static void copy_tables(void) {
     memcpy(fresh_numbers, page_numbers, sizeof page_numbers);
 }
 
+static void test_coarse(void) {
+    static int32_t pixels[MEARRASOT_PIXEL_BOX * 16];
+    struct mearrasot_page p;
+    struct mearrasot_pixels box;
+    uint64_t answer;
+    build(&page, 24.5f);
+    answer = mearrasot_lay(&page, mearrasot_screen(240));
+    CHECK(mearrasot_number(answer) == MEARRASOT_DONE);
+    p = mearrasot_page_of(&page);
+    IS(mearrasot_show_coarse(&page, pixels), MEARRASOT_DONE, 0);
+    box = mearrasot_pixels_of(&p, pixels, TEXT);
+    CHECK(mearrasot_box_of(&p, TEXT).height == 24.5f && box.height == 25);
+    CHECK(box.y + box.height == (int32_t)(mearrasot_box_of(&p, TEXT).y + 25));
+    CHECK(mearrasot_pixels_of(&p, pixels, LAMP).width == 0);
+    CHECK(strcmp(mearrasot_text((uint64_t)MEARRASOT_TOO_FAR << 32), "edge too far for whole pixels") == 0);
+}
+
 static void test_building(void) {
     const struct mearrasot_question q = mearrasot_screen(240);
     uint64_t answer;
@@ -306,6 +323,7 @@ static void test_faults(void) {
 
 int main(void) {
     test_fields();
+    test_coarse();
     test_building();
     test_setters();
     test_many_edits();

@@ -206,6 +206,60 @@ static void test_index(void) {
     CHECK(found[0] == MEARRASOT_NONE);
 }
 
+/* Whole pixels: zeros where nothing is laid, halves up, common edges, and each refusal. */
+static void test_coarse(void) {
+    struct mearrasot_page p = page_in(&now);
+    int32_t pixels[MEARRASOT_PIXEL_BOX * NODES + 1], lent[MEARRASOT_PIXEL_BOX * NODES + 1];
+    struct mearrasot_pixels box;
+    uint32_t n, seen = 0;
+    memset(lent, 0x5a, sizeof lent);
+    memcpy(pixels, lent, sizeof pixels);
+    lay();
+    IS(mearrasot_coarse_page(&p, pixels), MEARRASOT_DONE, 0);
+    CHECK(untouched() && pixels[MEARRASOT_PIXEL_BOX * NODES] == lent[0]);
+    box = mearrasot_pixels_of(&p, pixels, 5);
+    CHECK(box.x == 51 && box.y == 10 && box.width == 47 && box.height == 9);
+    box = mearrasot_pixels_of(&p, pixels, LAMP);
+    CHECK(box.x == 0 && box.y == 0 && box.width == 0 && box.height == 0);
+    box = mearrasot_pixels_of(&p, pixels, (uint32_t)p.nodes);
+    CHECK(box.x == 0 && box.width == 0);
+    for (n = mearrasot_drawn_coarse(&p, pixels, 0); n != MEARRASOT_NO_NODE; n = mearrasot_drawn_coarse(&p, pixels, n + 1)) {
+        seen |= 1u << n;
+    }
+    CHECK(seen == (1u << 0 | 1u << 1 | 1u << 2 | 1u << 5));
+
+    /* 2 from 1.5 to 2.5, 3 from there on: both go up, and they keep their edge. */
+    now.rows[MEARRASOT_ROW * 2 + MEARRASOT_R_Y] = 0.5f;
+    now.rows[MEARRASOT_ROW * 2 + MEARRASOT_R_HEIGHT] = 1;
+    now.rows[MEARRASOT_ROW * 3 + MEARRASOT_R_Y] = 1.5f;
+    now.rows[MEARRASOT_ROW * 3 + MEARRASOT_R_HEIGHT] = 1.25f;
+    now.rows[MEARRASOT_ROW * 3 + MEARRASOT_R_X] = -9.5f; /* -5.5 on the page */
+    IS(mearrasot_coarse_page(&p, pixels), MEARRASOT_DONE, 0);
+    CHECK(mearrasot_pixels_of(&p, pixels, 2).y == 2 && mearrasot_pixels_of(&p, pixels, 2).height == 1);
+    CHECK(mearrasot_pixels_of(&p, pixels, 3).y == 3 && mearrasot_pixels_of(&p, pixels, 3).height == 1);
+    CHECK(mearrasot_pixels_of(&p, pixels, 3).x == -5);
+
+    memcpy(pixels, lent, sizeof pixels);
+    now.rows[MEARRASOT_ROW * 5 + MEARRASOT_R_WIDTH] = 16777216;
+    now.rows[MEARRASOT_ROW * LAMP + MEARRASOT_R_WIDTH] = 16777216; /* not laid: not asked */
+    IS(mearrasot_coarse_page(&p, pixels), MEARRASOT_TOO_FAR, 5);
+    now.rows[MEARRASOT_ROW * 1 + MEARRASOT_R_Y] = -16777216.0f - 2;
+    IS(mearrasot_coarse_page(&p, pixels), MEARRASOT_TOO_FAR, 1);
+    IS(mearrasot_coarse(words, 24, now.rows, 96, now.marks, 12, pixels, 25), MEARRASOT_LENGTHS, 0);
+    IS(mearrasot_coarse(words, 24, now.rows, 95, now.marks, 12, pixels, 24), MEARRASOT_LENGTHS, 0);
+    IS(mearrasot_coarse_page(&p, NULL), MEARRASOT_LENGTHS, 0);
+    words[0] = 5;
+    IS(mearrasot_coarse_page(&p, pixels), MEARRASOT_TREE, 0);
+    mend();
+    words[1] = MEARRASOT_HIDDEN;
+    IS(mearrasot_coarse_page(&p, pixels), MEARRASOT_CODES, 0);
+    mend();
+    now.marks[MEARRASOT_M_BITS] = 0;
+    IS(mearrasot_coarse_page(&p, pixels), MEARRASOT_NOT_LAID, 0);
+    CHECK(memcmp(pixels, lent, sizeof pixels) == 0);
+    CHECK(MEARRASOT_PIXELS_BYTES(NODES) == sizeof pixels - sizeof pixels[0]);
+}
+
 /* The tables in flash are those that the helpers make. */
 static void test_flash(void) {
     struct mearrasot_page p = page_in(&now);
@@ -275,6 +329,7 @@ int main(void) {
     test_calls_refused();
     test_too_large();
     test_index();
+    test_coarse();
     lay();
     test_flash();
     test_cut();

@@ -2,6 +2,7 @@
 use mathlib.Core.Path.{_≡_, refl, sym, ap, subst, _∙_}
 use mathlib.Core.List.{List, [], _∷_}
 use Prim.Native.Nat.{ℕ}
+use lib.IntN.{ℤ}
 use lib.Ieee.{Float}
 use Rattle.geometry.specs.Geometry.{zeroF}
 use Rattle.geometry.specs.declared.Size as geometry
@@ -20,7 +21,9 @@ use Rattle.index.specs.Index.{Index, Indexed, indexPaper}
 use Rattle.index.specs.declared.IndexAnswer.{IndexAnswer}
 use Rattle.scroll.specs.Scroll.{scrollPaper}
 use Rattle.scroll.specs.declared.ScrollAnswer.{ScrollAnswer}
-use Rattle.face.specs.Answered.{Halves, Answered, Sized, IndexAnswered, Scrolled, foundIn}
+use Rattle.coarse.specs.Coarse.{Panel, Coarsened, coarsePaper}
+use Rattle.coarse.specs.declared.CoarseAnswer.{CoarseAnswer}
+use Rattle.face.specs.Answered.{Halves, Answered, Sized, IndexAnswered, Scrolled, foundIn, CoarseAnswered}
 
 -- the answer packed, the memory as it was left
 pub answered : {w v : Reply} {a : Answer} {r : ℕ} {rows : List Float} {marks : List ℕ} {pairs : List ℕ} {triples : List Float} → w ≡ v → Replied w a rows marks pairs triples → Halves (paper a) r → Answered v r rows marks pairs triples
@@ -61,3 +64,11 @@ indexed {w} {a} {r} {ts} {bs} {ls} s h =
 pub scrolled : {a b : ScrollAnswer} {p : ℕ × ℕ} {r : ℕ} {lent found : List ℕ} → a ≡ b → scrollPaper b ≡ p → found ≡ foundIn b lent → Halves p r → Scrolled a lent r found
 scrolled {a} {b} {p} {r} {lent} {found} e f g h =
     subst (λ (x : ScrollAnswer). Scrolled x lent r found) (sym e) record { answer-is = subst (λ (q : ℕ × ℕ). Halves q r) (sym f) h; found-is = g }
+
+-- one case of a coarse answer
+pub of-coarse : {a b : CoarseAnswer} {p : ℕ × ℕ} {r : ℕ} → a ≡ b → coarsePaper b ≡ p → Halves p r → Halves (coarsePaper a) r
+of-coarse {a} {b} {p} {r} e f h = subst (λ (q : ℕ × ℕ). Halves q r) (sym (ap coarsePaper e ∙ f)) h
+
+-- the coarse answer packed, the output as it was left
+pub coarsened : {w : Panel} {a : CoarseAnswer} {r : ℕ} {out : List ℤ} → Coarsened w a out → Halves (coarsePaper a) r → CoarseAnswered w r out
+coarsened {w} {a} {r} {out} s h = record { answer-is = subst (λ (x : CoarseAnswer). Halves (coarsePaper x) r) (s .answer-is) h; out-is = s .out-is }

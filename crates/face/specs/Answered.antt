@@ -3,12 +3,14 @@ use mathlib.Core.Path.{_≡_}
 use mathlib.Core.List.{List, [], _∷_}
 use Prim.Native.Nat.{ℕ, _/_, _%_, _^_}
 use native.Mathlib.Omega.{arith}
+use lib.IntN.{ℤ}
 use lib.Ieee.{Float}
 use Rattle.steps.specs.Noes.{paper}
 use Rattle.steps.specs.Results.{Reply, sizePaper}
 use Rattle.steps.specs.declared.SizeAnswer.{SizeAnswer}
 use Rattle.index.specs.Index.{Index, indexPaper}
 use Rattle.scroll.specs.Scroll.{scrollPaper}
+use Rattle.coarse.specs.Coarse.{Panel, coarsePaper}
 use Rattle.scroll.specs.declared.ScrollAnswer.{ScrollAnswer}
 use Rattle.scroll.specs.declared.ScrollAnswer.the-variants.{First, Nothing, NotFinite}
 
@@ -50,3 +52,8 @@ foundIn NotFinite lent = lent
 pub record Scrolled (want : ScrollAnswer) (lent : List ℕ) (r : ℕ) (found : List ℕ) : Type 0 where
   pub answer-is : Halves (scrollPaper want) r
   pub found-is : found ≡ foundIn want lent
+
+-- the coarse panel: the answer and the output
+pub record CoarseAnswered (want : Panel) (r : ℕ) (out : List ℤ) : Type 0 where
+  pub answer-is : Halves (coarsePaper (want .answer)) r
+  pub out-is : out ≡ want .out

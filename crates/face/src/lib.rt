@@ -5,9 +5,11 @@ ghost use Rattle.steps.specs.Noes.{paper};
 ghost use Rattle.steps.specs.Question.{rootInput};
 ghost use Rattle.steps.specs.Results.{layoutResult, relayoutResult, sizeResult, sizePaper};
 ghost use Rattle.face.specs.Question.{given, availableOf, plainQuestion, axisOf};
-ghost use Rattle.face.specs.Answered.{Halves, Answered, Sized, IndexAnswered, Scrolled};
+ghost use Rattle.face.specs.Answered.{Halves, Answered, Sized, IndexAnswered, Scrolled, CoarseAnswered};
 ghost use Rattle.index.specs.Index.{indexPaper, indexResult};
 ghost use Rattle.scroll.specs.Scroll.{scrollAnswer};
+ghost use Rattle.coarse.specs.Coarse.{coarsePaper, coarseResult};
+use coarse::CoarseAnswer;
 use index::IndexAnswer;
 use length::AvailableSpace;
 use scroll::ScrollAnswer;
@@ -76,7 +78,7 @@ fn axis(how: u32) -> RequestedAxis
 
 // A number and a place as the two halves of a word.
 fn halves(number: u64, place: u32) -> u64
-    requires { ⌜ number ≤ 10 ⌝ }
+    requires { ⌜ number ≤ 12 ⌝ }
     ensures { λ r. ⌜ Halves (number, place) r ⌝ }
 {
     number * 0x1_0000_0000 + place as u64
@@ -207,4 +209,29 @@ pub extern "C" fn mearrasot_scroll(running: &[f32], y: f32, found: &mut [u64; 1]
         }
         ScrollAnswer::NotFinite => halves(10, 0),
     }
+}
+
+// A coarse answer as the number and place of its request.
+fn packed_coarse(a: CoarseAnswer) -> u64
+    ensures { λ r. ⌜ Halves (coarsePaper a) r ⌝ }
+{
+    match a {
+        CoarseAnswer::Shown => halves(0, 0),
+        CoarseAnswer::Refused(no) => packed(no),
+        CoarseAnswer::TooFar(i) => halves(12, i.0),
+    }
+}
+
+// Each laid node as a box of whole pixels.
+#[no_mangle]
+pub extern "C" fn mearrasot_coarse(
+    words: &[u32],
+    rows: &[f32],
+    marks: &[u32],
+    out: &mut [i32],
+) -> u64
+    ensures { λ r. ⌜ CoarseAnswered (coarseResult (now (words .entry)) (now (rows .entry)) (now (marks .entry)) (now (out .entry))) r (now (out .exit)) ⌝ }
+{
+    let a = coarse::coarse(words, rows, marks, out);
+    packed_coarse(a)
 }

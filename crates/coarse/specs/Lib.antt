@@ -1,0 +1,5 @@
+pub mod Panel
+pub mod Above
+pub mod Coarse
+pub mod Due
+pub mod Sides

@@ -1,0 +1,2 @@
+// The coarse panel after a relayout: theorems in specs/.
+pub const REQUEST: u32 = 13;

@@ -1,0 +1,7 @@
+pub mod Pixel
+pub mod Worked
+pub mod Floor
+pub mod Value
+pub mod Laws
+pub mod Sums
+pub mod Sizes
