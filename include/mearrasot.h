@@ -23,8 +23,8 @@ extern "C" {
  * kept to them must change, the second if something is new, the third else. It
  * is not in the archive: take header and archive from the same commit.
  */
-#define MEARRASOT_VERSION_MAJOR 2
-#define MEARRASOT_VERSION_MINOR 1
+#define MEARRASOT_VERSION_MAJOR 3
+#define MEARRASOT_VERSION_MINOR 0
 #define MEARRASOT_VERSION_PATCH 0
 
 /* ---- Limits ---- */
@@ -37,7 +37,7 @@ extern "C" {
 /* ---- The tables: how many entries for each node or record ---- */
 
 #define MEARRASOT_WORDS 4    /* uint32_t for each node */
-#define MEARRASOT_NUMBERS 27 /* float for each node */
+#define MEARRASOT_NUMBERS 28 /* float for each node */
 #define MEARRASOT_ROW 16     /* float for each node */
 #define MEARRASOT_MARKS 2    /* uint32_t for each node */
 #define MEARRASOT_PAIR 2     /* uint32_t for each record */
@@ -92,8 +92,10 @@ extern "C" {
 #define MEARRASOT_ALIGN_STRETCH (4u << 13)
 #define MEARRASOT_ALIGN_SAFE_CENTER (1u << 17 | MEARRASOT_ALIGN_CENTER)
 #define MEARRASOT_ALIGN_SAFE_END (1u << 17 | MEARRASOT_ALIGN_END)
-/* No margin collapses through this box. */
+/* No margin collapses through this box, and its baseline is not seen outside. */
 #define MEARRASOT_CONTAINED (1u << 12)
+/* A leaf that has a first baseline, its field 27; on no other node. */
+#define MEARRASOT_LINED (1u << 16)
 
 /*
  * Units of a field. 0.5 is half: of a width, or in the two heights' fields and
@@ -105,9 +107,10 @@ extern "C" {
 #define MEARRASOT_FRACTION 2u
 
 /*
- * numbers, 27 for each node, field by field: all widths, then all heights, and
- * so on, 27 planes of as many numbers as there are nodes. Words, rows and marks
- * stand node by node. (Up to version 1 the numbers did too.)
+ * numbers, 28 for each node, field by field: all widths, then all heights, and
+ * so on, 28 planes of as many numbers as there are nodes. Words, rows and marks
+ * stand node by node. (Up to version 1 the numbers did too;
+ * up to version 2 there were 27 of them.)
  *
  * numbers[MEARRASOT_NUMBER(nodes, node, field)] is a field of a node, of a page
  * of so many nodes. The order of the numbers is known here and nowhere else.
@@ -134,7 +137,8 @@ enum mearrasot_field {
     MEARRASOT_F_SCROLLBAR = 23,
     MEARRASOT_F_LEAF_MIN = 24,    /* a leaf's narrowest width */
     MEARRASOT_F_LEAF_MAX = 25,    /* its widest, not below the narrowest */
-    MEARRASOT_F_LEAF_HEIGHT = 26
+    MEARRASOT_F_LEAF_HEIGHT = 26,
+    MEARRASOT_F_LEAF_BASELINE = 27 /* from its top, 0 to its height, at every node */
 };
 
 /* Sides, to be added to MARGIN, PADDING, BORDER and INSET. */
@@ -150,7 +154,8 @@ enum mearrasot_field {
  * the margins of its children without its own; one that does not holds its own
  * margin alone.
  * Of a shown node out of the flow: start, line and end in 0, 1 and 2.
- * 11 to 15 are for the next relayout alone; 15 is 0.
+ * 11 to 14 are for the next relayout alone. 15 is the first baseline, from the
+ * node's top, if MEARRASOT_BASELINE says so.
  */
 enum mearrasot_row {
     MEARRASOT_R_X = 0,
@@ -164,6 +169,7 @@ enum mearrasot_row {
     MEARRASOT_R_PARENT_WIDTH = 10,
     MEARRASOT_R_PROBE = 11,
     MEARRASOT_R_HEIGHT_BASIS = 14, /* what a fraction of its height is a part of */
+    MEARRASOT_R_BASELINE = 15,
     MEARRASOT_R_START = 0,
     MEARRASOT_R_LINE = 1,
     MEARRASOT_R_END = 2
@@ -183,6 +189,7 @@ enum mearrasot_row {
 #define MEARRASOT_PROBE_KIND(bits) (((bits) >> 5) & 3u) /* 1 definite, 2 min-content, 3 max-content */
 #define MEARRASOT_PROBE_HEIGHT (1u << 7)
 #define MEARRASOT_BASIS_GIVEN (1u << 8)
+#define MEARRASOT_BASELINE (1u << 9) /* there is a first baseline at or below it */
 
 /*
  * The candidate list: a record for each shown node out of the flow that is not

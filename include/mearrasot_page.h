@@ -286,6 +286,17 @@ static inline uint32_t mearrasot_leaf(struct mearrasot_builder *b, float least, 
     return node;
 }
 
+/* A leaf's first baseline, from its top: not above its height. */
+static inline void mearrasot_baseline(struct mearrasot_builder *b, uint32_t node, float y) {
+    mearrasot_put_word(b, node, 1u, MEARRASOT_LINED, MEARRASOT_LINED);
+    mearrasot_put_number(b, node, MEARRASOT_F_LEAF_BASELINE, y);
+}
+
+static inline void mearrasot_no_baseline(struct mearrasot_builder *b, uint32_t node) {
+    mearrasot_put_word(b, node, 1u, MEARRASOT_LINED, 0u);
+    mearrasot_put_number(b, node, MEARRASOT_F_LEAF_BASELINE, 0.0f);
+}
+
 /* One group of the style; value: a constant of that group, 0 for the flags' absence. */
 #define MEARRASOT_STYLE_(name, mask) \
     static inline void mearrasot_##name(struct mearrasot_builder *b, uint32_t node, uint32_t value) { \

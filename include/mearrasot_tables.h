@@ -72,6 +72,12 @@ static inline void mearrasot_measure(float *numbers, size_t nodes, size_t node,
     numbers[MEARRASOT_NUMBER(nodes, node, MEARRASOT_F_LEAF_HEIGHT)] = height;
 }
 
+/* A leaf's first baseline, from its top: not above its height. */
+static inline void mearrasot_line(uint32_t *words, float *numbers, size_t nodes, size_t node, float baseline) {
+    words[MEARRASOT_WORDS * node + 1] |= MEARRASOT_LINED;
+    numbers[MEARRASOT_NUMBER(nodes, node, MEARRASOT_F_LEAF_BASELINE)] = baseline;
+}
+
 /* ---- Tables in flash ---- */
 
 /*
@@ -86,7 +92,8 @@ static inline void mearrasot_measure(float *numbers, size_t nodes, size_t node,
  * static const float numbers[] = {MEARRASOT_PLANES(NUMBERS)};
  *
  * units joins, by |, a MEARRASOT_UNIT for each field whose unit is not the usual.
- * NUMBERS is written node by node and read 27 times, once for each plane.
+ * NUMBERS is written node by node and read 28 times, once for each plane.
+ * A leaf with a baseline has MEARRASOT_LINED in its style and MEARRASOT_LEAF_LINED for its numbers.
  */
 #define MEARRASOT_UNIT(field, unit) \
     (((MEARRASOT_USUAL_UNITS >> MEARRASOT_UNIT_AT(field) & 3u) ^ (uint64_t)(unit)) << MEARRASOT_UNIT_AT(field))
@@ -98,7 +105,9 @@ static inline void mearrasot_measure(float *numbers, size_t nodes, size_t node,
         (float)(max_height)
 #define MEARRASOT_SIDES(top, right, bottom, left) (float)(top), (float)(right), (float)(bottom), (float)(left)
 #define MEARRASOT_ALL(x) MEARRASOT_SIDES(x, x, x, x)
-#define MEARRASOT_LEAF_OF(least, most, height) (float)(least), (float)(most), (float)(height)
+#define MEARRASOT_LEAF_OF(least, most, height) MEARRASOT_LEAF_LINED(least, most, height, 0)
+#define MEARRASOT_LEAF_LINED(least, most, height, baseline) \
+    (float)(least), (float)(most), (float)(height), (float)(baseline)
 #define MEARRASOT_NUMBERS_OF(sizes, margin, padding, border, inset, ratio, scrollbar, leaf) \
     sizes, margin, padding, border, inset, (float)(ratio), (float)(scrollbar), leaf
 #define MEARRASOT_NUMBERS_OF_LEAF(least, most, height) \
@@ -114,8 +123,9 @@ static inline void mearrasot_measure(float *numbers, size_t nodes, size_t node,
     page(MEARRASOT_NODE_, 15) page(MEARRASOT_NODE_, 16) page(MEARRASOT_NODE_, 17) \
     page(MEARRASOT_NODE_, 18) page(MEARRASOT_NODE_, 19) page(MEARRASOT_NODE_, 20) \
     page(MEARRASOT_NODE_, 21) page(MEARRASOT_NODE_, 22) page(MEARRASOT_NODE_, 23) \
-    page(MEARRASOT_NODE_, 24) page(MEARRASOT_NODE_, 25) page(MEARRASOT_NODE_, 26)
-/* Of a node's 27 numbers that of field f; the 0 is for C99, where dots stand for something. */
+    page(MEARRASOT_NODE_, 24) page(MEARRASOT_NODE_, 25) page(MEARRASOT_NODE_, 26) \
+    page(MEARRASOT_NODE_, 27)
+/* Of a node's 28 numbers that of field f; the 0 is for C99, where dots stand for something. */
 #define MEARRASOT_NODE_(f, ...) MEARRASOT_PICK_##f##_(__VA_ARGS__, 0)
 #define MEARRASOT_PICK_0_(x, ...) x,
 #define MEARRASOT_PICK_1_(x, ...) MEARRASOT_PICK_0_(__VA_ARGS__)
@@ -144,6 +154,7 @@ static inline void mearrasot_measure(float *numbers, size_t nodes, size_t node,
 #define MEARRASOT_PICK_24_(x, ...) MEARRASOT_PICK_23_(__VA_ARGS__)
 #define MEARRASOT_PICK_25_(x, ...) MEARRASOT_PICK_24_(__VA_ARGS__)
 #define MEARRASOT_PICK_26_(x, ...) MEARRASOT_PICK_25_(__VA_ARGS__)
+#define MEARRASOT_PICK_27_(x, ...) MEARRASOT_PICK_26_(__VA_ARGS__)
 
 /* ---- The calls, with a struct for the tables ---- */
 
@@ -352,6 +363,18 @@ static inline struct mearrasot_box mearrasot_box_of(const struct mearrasot_page 
     box.width = laid ? p->rows[MEARRASOT_ROW * node + MEARRASOT_R_WIDTH] : 0.0f;
     box.height = laid ? p->rows[MEARRASOT_ROW * node + MEARRASOT_R_HEIGHT] : 0.0f;
     return box;
+}
+
+/* Has a node a first baseline? */
+static inline int mearrasot_is_lined(const struct mearrasot_page *p, uint32_t node) {
+    return mearrasot_is_laid(p, node) && (p->marks[MEARRASOT_MARKS * node + MEARRASOT_M_BITS] & MEARRASOT_BASELINE) != 0u;
+}
+
+/* Where on the page its line stands; 0 if it has none. */
+static inline float mearrasot_line_of(const struct mearrasot_page *p, uint32_t node) {
+    return mearrasot_is_lined(p, node)
+        ? mearrasot_edge(p, node, MEARRASOT_R_Y) + p->rows[MEARRASOT_ROW * node + MEARRASOT_R_BASELINE]
+        : 0.0f;
 }
 
 /* A box in whole pixels, as mearrasot_coarse gives it. */

@@ -109,6 +109,33 @@ static void test_margins(void) {
     CHECK(of(2, q).width == 100 && of(1, q).height == 16);
 }
 
+/* A leaf's first baseline, in its box and on the page; relayouts follow it. */
+static void test_baseline(void) {
+    const struct mearrasot_question q = mearrasot_screen(100);
+    build(MEARRASOT_BLOCK);
+    CHECK(of(2, q).height == 10 && !mearrasot_is_lined(&p, 2) && mearrasot_line_of(&p, 2) == 0);
+    mearrasot_baseline(&page, 2, 8);
+    mearrasot_margin_top_px(&page, 1, 3);
+    CHECK(of(2, q).y == 3 && page.relaid);
+    CHECK(mearrasot_is_lined(&p, 2) && page_rows[2 * MEARRASOT_ROW + MEARRASOT_R_BASELINE] == 8);
+    CHECK(mearrasot_is_lined(&p, 1) && page_rows[MEARRASOT_ROW + MEARRASOT_R_BASELINE] == 8);
+    CHECK(mearrasot_is_lined(&p, 0) && page_rows[MEARRASOT_R_BASELINE] == 11);
+    CHECK(mearrasot_line_of(&p, 0) == 11 && mearrasot_line_of(&p, 1) == 11 && mearrasot_line_of(&p, 2) == 11);
+    mearrasot_height_px(&page, 1, 50);
+    mearrasot_align(&page, 1, MEARRASOT_ALIGN_END);
+    CHECK(of(2, q).y == 43 && mearrasot_line_of(&p, 0) == 51 && mearrasot_line_of(&p, 2) == 51);
+    mearrasot_contained(&page, 1, MEARRASOT_CONTAINED);
+    CHECK(of(1, q).y == 3 && !mearrasot_is_lined(&p, 0) && !mearrasot_is_lined(&p, 1) && mearrasot_is_lined(&p, 2));
+    mearrasot_no_baseline(&page, 2);
+    CHECK(of(2, q).y == 43 && !mearrasot_is_lined(&p, 2) && page_rows[2 * MEARRASOT_ROW + MEARRASOT_R_BASELINE] == 0);
+    mearrasot_baseline(&page, 2, 10.5f); /* below the leaf */
+    IS(mearrasot_lay(&page, q), MEARRASOT_BAD_NUMBER, 2);
+    mearrasot_baseline(&page, 2, 10);
+    CHECK(of(2, q).height == 10);
+    mearrasot_baseline(&page, 1, 0); /* no leaf */
+    IS(mearrasot_lay(&page, q), MEARRASOT_CODES, 1);
+}
+
 static void test_question(void) {
     struct mearrasot_question q = mearrasot_screen(100);
     float size[2];
@@ -150,6 +177,7 @@ int main(void) {
     test_align();
     test_align_words();
     test_margins();
+    test_baseline();
     test_question();
     return report("styles");
 }

@@ -16,7 +16,7 @@ static const uint32_t flash_words[] = {
     MEARRASOT_WORDS_OF(1, MEARRASOT_LEAF, 0),
     MEARRASOT_WORDS_OF(1, MEARRASOT_LEAF, 0),
     MEARRASOT_WORDS_OF(1, MEARRASOT_LEAF | MEARRASOT_OUT_OF_FLOW, 0),
-    MEARRASOT_WORDS_OF(1, MEARRASOT_LEAF | MEARRASOT_RELATIVE,
+    MEARRASOT_WORDS_OF(1, MEARRASOT_LEAF | MEARRASOT_RELATIVE | MEARRASOT_LINED,
                        MEARRASOT_UNIT(MEARRASOT_F_WIDTH, MEARRASOT_FRACTION) |
                            MEARRASOT_UNIT(MEARRASOT_F_MARGIN + MEARRASOT_LEFT, MEARRASOT_AUTO) |
                            MEARRASOT_UNIT(MEARRASOT_F_INSET + MEARRASOT_TOP, MEARRASOT_PIXELS))
@@ -29,7 +29,7 @@ static const uint32_t flash_words[] = {
     node(f, MEARRASOT_NUMBERS_OF_LEAF(10, 50, 0)) \
     node(f, MEARRASOT_NUMBERS_OF_LEAF(10, 50, 5)) \
     node(f, MEARRASOT_NUMBERS_OF(MEARRASOT_SIZES(0.5, 0, 0, 0, 0, 0), MEARRASOT_ALL(0), MEARRASOT_ALL(0), \
-                                 MEARRASOT_ALL(0), MEARRASOT_SIDES(2, 0, 0, 0), 0, 0, MEARRASOT_LEAF_OF(10, 50, 9)))
+                                 MEARRASOT_ALL(0), MEARRASOT_SIDES(2, 0, 0, 0), 0, 0, MEARRASOT_LEAF_LINED(10, 50, 9, 6)))
 static const float flash_numbers[] = {MEARRASOT_PLANES(FLASH)};
 
 /* The same by hand, in memory that may be damaged. */
@@ -265,12 +265,14 @@ static void test_flash(void) {
     struct mearrasot_page p = page_in(&now);
     mearrasot_node(words, numbers, NODES, 5, 1, MEARRASOT_LEAF | MEARRASOT_RELATIVE);
     mearrasot_measure(numbers, NODES, 5, 10, 50, 9);
+    mearrasot_line(words, numbers, NODES, 5, 6);
     mearrasot_set(words, numbers, NODES, 5, MEARRASOT_F_WIDTH, MEARRASOT_FRACTION, 0.5f);
     mearrasot_set(words, numbers, NODES, 5, MEARRASOT_F_MARGIN + MEARRASOT_LEFT, MEARRASOT_AUTO, 0);
     mearrasot_set(words, numbers, NODES, 5, MEARRASOT_F_INSET + MEARRASOT_TOP, MEARRASOT_PIXELS, 2);
     CHECK(memcmp(words, flash_words, sizeof words) == 0 && memcmp(numbers, flash_numbers, sizeof numbers) == 0);
     CHECK(numbers[0] == 0 && numbers[5] == 0.5f && numbers[60] == 1 && numbers[66] == 2 && numbers[72] == 3);
     CHECK(numbers[113] == 2 && numbers[144] == 0 && numbers[146] == 10 && numbers[158] == 7 && numbers[161] == 9);
+    CHECK(numbers[166] == 0 && numbers[167] == 6 && flash_words[21] == 0x10011);
     p.words = flash_words;
     p.numbers = flash_numbers;
     IS(mearrasot_layout_page(&p, mearrasot_screen(100)), MEARRASOT_DONE, 1);
@@ -278,8 +280,8 @@ static void test_flash(void) {
     CHECK(sizeof flash_words == MEARRASOT_WORDS_BYTES(NODES) && sizeof flash_numbers == MEARRASOT_NUMBERS_BYTES(NODES));
     CHECK(sizeof now.rows == MEARRASOT_ROWS_BYTES(NODES) && sizeof now.marks == MEARRASOT_MARKS_BYTES(NODES));
     CHECK(sizeof now.pairs == MEARRASOT_PAIRS_BYTES(RECORDS) && sizeof now.triples == MEARRASOT_TRIPLES_BYTES(RECORDS));
-    CHECK(MEARRASOT_PAGE_BYTES(1024u, 0u) == 200704 && MEARRASOT_WRITTEN_BYTES(NODES, RECORDS) == sizeof now);
-    CHECK(MEARRASOT_VERSION_MAJOR == 2);
+    CHECK(MEARRASOT_PAGE_BYTES(1024u, 0u) == 204800 && MEARRASOT_WRITTEN_BYTES(NODES, RECORDS) == sizeof now);
+    CHECK(MEARRASOT_VERSION_MAJOR == 3);
 }
 
 /* The head is a page of its own: its numbers are a run of each plane. */

@@ -1,6 +1,6 @@
 //! The crate's side: a page as the tree that block.rs walks, and the rows that come out of it.
 use crate::arithmetic::clamp;
-use crate::outcome::{Candidate, Outcome, Row, LAID, OUT, THROUGH};
+use crate::outcome::{Candidate, Outcome, Row, LAID, LINED, OUT, THROUGH};
 use crate::page::{self, field, Ask, Available, Kind, Page};
 use taffy_block::compute::{compute_block_layout, BlockContext};
 use taffy_block::geometry::{Line, Point, Rect, Size};
@@ -9,7 +9,7 @@ use taffy_block::style::{
     Dimension, Direction, Display, LengthPercentage, LengthPercentageAuto, Overflow, Position, Style,
 };
 use taffy_block::tree::{
-    Layout, LayoutBlockContainer, LayoutInput, LayoutOutput, LayoutPartialTree, NodeId, OofCandidate,
+    Baselines, Layout, LayoutBlockContainer, LayoutInput, LayoutOutput, LayoutPartialTree, NodeId, OofCandidate,
     RequestedAxis, RunMode, SizingMode, TraversePartialTree,
 };
 
@@ -71,6 +71,10 @@ impl<'a> Tree<'a> {
         row.numbers[6] = output.bottom_margin.positive;
         row.numbers[7] = output.bottom_margin.negative;
         row.bits = LAID | if output.margins_can_collapse_through { THROUGH } else { 0 };
+        if let Some(line) = output.baselines.first {
+            row.numbers[15] = line;
+            row.bits |= LINED;
+        }
         for entry in &output.oof_candidates.0 {
             // A container's own children are in its list as they stand in it, before any is moved.
             if self.parents[entry.node.0] == node {
@@ -90,7 +94,8 @@ fn leaf(page: &Page, node: usize, input: LayoutInput) -> LayoutOutput {
         AvailableSpace::Definite(width) => clamp(width, Some(min), Some(max)),
     });
     let height = input.known_dimensions.height.unwrap_or(table(field::LEAF_HEIGHT));
-    LayoutOutput::from_outer_size(Size { width, height })
+    let baselines = Baselines::from_first(page.baseline(node));
+    LayoutOutput { baselines, ..LayoutOutput::from_outer_size(Size { width, height }) }
 }
 
 fn root_input(page: &Page) -> LayoutInput {

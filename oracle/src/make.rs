@@ -56,6 +56,8 @@ struct Mood {
     relative: u64,
     out_of_flow: u64,
     rtl: u64,
+    /// Leaves with a baseline.
+    lines: u64,
     fractions: u64,
     /// Fractions of heights. Then more boxes have a height at all, so that there are parts of parts.
     heights: u64,
@@ -94,6 +96,7 @@ fn mood(random: &mut Random, nodes: usize) -> Mood {
     let mut either = |percent: u64, often: u64| if random.chance(percent) { often } else { 0 };
     let (scroll, relative) = (either(50, 20), either(50, 30));
     let (out_of_flow, rtl, fractions) = (either(60, 15), either(50, 40), either(60, 20));
+    let lines = either(50, 60);
     let (heights, large, chains) = (either(50, 40), either(10, 80), either(20, 85));
     // Few nodes reach the limit without a ratio.
     let ratio = if large > 0 { 50 } else { either(40, 15) };
@@ -105,6 +108,7 @@ fn mood(random: &mut Random, nodes: usize) -> Mood {
         relative,
         out_of_flow,
         rtl,
+        lines,
         fractions,
         heights,
         large,
@@ -180,7 +184,12 @@ impl Maker<'_> {
             let (a, b) = (self.pixels(), self.pixels());
             numbers[field::LEAF_MIN] = a.min(b);
             numbers[field::LEAF_MAX] = a.max(b);
-            numbers[field::LEAF_HEIGHT] = if self.random.chance(20) { 0.0 } else { self.pixels() };
+            let height = if self.random.chance(20) { 0.0 } else { self.pixels() };
+            numbers[field::LEAF_HEIGHT] = height;
+            if self.random.chance(self.mood.lines) {
+                words[1] |= ((kind == LEAF) as u32) << 16;
+                numbers[field::LEAF_BASELINE] = self.random.one_of(&[0.0, -0.0, height, 0.75 * height]);
+            }
         }
         self.words.extend(words);
         self.numbers.extend(numbers);

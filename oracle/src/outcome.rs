@@ -7,11 +7,12 @@ pub const HEIGHT_ASKED: u32 = 1 << 3;
 pub const PROBED: u32 = 1 << 4;
 pub const PROBE_HEIGHT: u32 = 1 << 7;
 pub const BASIS: u32 = 1 << 8;
+pub const LINED: u32 = 1 << 9;
 
 /// Numbers of refusals.
 pub const BAD_STYLE: u32 = 3;
 const TOO_LARGE: u32 = 8;
-/// Every place, size, margin and basis has to stay below this magnitude.
+/// Every place, size, margin, basis and baseline has to stay below this magnitude.
 const LIMIT: f32 = 16_777_216.0;
 
 /// Equality is that of numbers: the two zeros are equal, and a NaN is equal to nothing.
@@ -23,13 +24,13 @@ pub struct Row {
 }
 
 impl Row {
-    /// block.rs has places, sizes, sets, order, and bits 0 to 2.
+    /// block.rs has places, sizes, sets, baselines, order, and bits 0 to 2 and 9.
     fn keep_shared(&mut self) {
-        self.numbers[8..].fill(0.0);
-        self.bits &= LAID | THROUGH | OUT;
+        self.numbers[8..15].fill(0.0);
+        self.bits &= LAID | THROUGH | OUT | LINED;
     }
     fn too_large(&self) -> bool {
-        self.numbers[..15].iter().any(|number| too_large(*number))
+        self.numbers.iter().any(|number| too_large(*number))
     }
 }
 

@@ -1,7 +1,7 @@
 //! A page: 01's two tables, and the question that is put to it.
 
 pub const WORDS: usize = 4;
-pub const NUMBERS: usize = 27;
+pub const NUMBERS: usize = 28;
 
 /// Fields of a node. Margin, padding, border and inset have four, in the order of the sides.
 pub mod field {
@@ -19,6 +19,7 @@ pub mod field {
     pub const LEAF_MIN: usize = 24;
     pub const LEAF_MAX: usize = 25;
     pub const LEAF_HEIGHT: usize = 26;
+    pub const LEAF_BASELINE: usize = 27;
     /// How many fields have a unit.
     pub const UNITS: usize = 22;
 }
@@ -196,6 +197,12 @@ impl Page {
     }
     pub fn contained(&self, node: usize) -> bool {
         self.style(node, 12, 1) == 1
+    }
+
+    /// What a leaf shows as its first baseline.
+    pub fn baseline(&self, node: usize) -> Option<f32> {
+        let shows = self.style(node, 16, 1) == 1 && !self.contained(node);
+        shows.then(|| self.number(node, field::LEAF_BASELINE))
     }
 
     pub fn children(&self, node: usize) -> impl Iterator<Item = usize> + '_ {

@@ -32,6 +32,8 @@ rules! {
     13 StyledHeightBasis "styled-height-basis"
     14 RatioHeightAsIs "ratio-height-as-is"
     15 NumbersOnce "numbers-once"
+    16 LineUnmoved "line-unmoved"
+    17 ScrolledLine "scrolled-line"
 }
 
 impl Rule {

@@ -2,7 +2,7 @@
 use crate::page::{field, unit_place, Page, Question, AUTO, NUMBERS, PIXELS, WORDS};
 
 /// The bits of a style word after the kind.
-const STYLE_BITS: std::ops::Range<u32> = 2..13;
+const STYLE_BITS: std::ops::Range<u32> = 2..18;
 
 /// What can be taken from a question.
 const QUESTION_STEPS: [fn(&mut Page); 4] = [
@@ -87,6 +87,9 @@ fn plain_unit(field: usize) -> u32 {
 fn plain_field(node: usize, field: usize) -> impl Fn(&mut Page) {
     move |page| {
         page.numbers[NUMBERS * node + field] = 0.0;
+        if field == field::LEAF_HEIGHT {
+            page.numbers[NUMBERS * node + field::LEAF_BASELINE] = 0.0; // not above the height
+        }
         if field < field::UNITS {
             let (word, at) = unit_place(field);
             let units = &mut page.words[WORDS * node + word];

@@ -69,11 +69,11 @@ laid-fits h ws xs few =
     let n = h .count in
     let cw : List ℕ = replicate (2 * n) 0 in
     let cx : List Float = replicate (3 * n) zeroF in
-    let r = layoutResult (take (4 * n) ws) (take (27 * n) xs) (replicate (16 * n) zeroF) (replicate (2 * n) 0) cw cx (rootInput (h .question)) in
+    let r = layoutResult (take (4 * n) ws) (take (28 * n) xs) (replicate (16 * n) zeroF) (replicate (2 * n) 0) cw cx (rootInput (h .question)) in
     let a : length cw ≡ 2 * n = length-replicate (2 * n) 0 in
     let b : length cx ≡ 3 * n = length-replicate (3 * n) zeroF in
     let k : recordsIn cw cx ≤ n = omega arith in
-    let s = page-short (r .answer) n n (r .rows) (r .marks) (r .words) (r .numbers) (λ e. omega (arith, k, count-few (take (4 * n) ws) (take (27 * n) xs) (replicate (16 * n) zeroF) (replicate (2 * n) 0) cw cx (rootInput (h .question)) e)) in
+    let s = page-short (r .answer) n n (r .rows) (r .marks) (r .words) (r .numbers) (λ e. omega (arith, k, count-few (take (4 * n) ws) (take (28 * n) xs) (replicate (16 * n) zeroF) (replicate (2 * n) 0) cw cx (rootInput (h .question)) e)) in
     omega (arith, s)
 
 file-fits : (f : PageFile) (ws : List ℕ) (xs : List Float) → ((h : Head) → f ≡ Page h → h .count ≤ 512) → length (fileText f ws xs) ≤ 131072
@@ -81,14 +81,14 @@ unfolding fileText
 file-fits (BadLine k) ws xs h = omega (arith, bad-short k)
 file-fits (Page h) ws xs few = laid-fits h ws xs (few h refl)
 
-512-nodes : (s : List ℕ) (h : Head) → pageFile 2048 13824 s .file ≡ Page h → h .count ≤ 512
+512-nodes : (s : List ℕ) (h : Head) → pageFile 2048 14336 s .file ≡ Page h → h .count ≤ 512
 unfolding nodeLimit
-512-nodes s h e = omega (arith, page-fits 2048 13824 s h e)
+512-nodes s h e = omega (arith, page-fits 2048 14336 s h e)
 
 -- whatever is read, the output has at most 131,072 bytes
 pub output-fits : (s : List ℕ) → length (outputText s) ≤ 131072
 unfolding outputText
-output-fits s = file-fits (pageFile 2048 13824 s .file) (pageFile 2048 13824 s .words) (pageFile 2048 13824 s .numbers) (512-nodes s)
+output-fits s = file-fits (pageFile 2048 14336 s .file) (pageFile 2048 14336 s .words) (pageFile 2048 14336 s .numbers) (512-nodes s)
 
 -- what is shown in such a buffer is the whole output, with the rest as it was
 pub never-cut : (s out out′ : List ℕ) (r : ℕ) → length out ≡ 131072 → Shown (outputText s) out out′ r → (r ≡ length (outputText s)) × (out′ ≡ outputText s ++ drop (length (outputText s)) out)

@@ -1,4 +1,4 @@
--- Readers of as many numbers that agree on the 27 fields of every node, at least where the lengths pass, give one result.
+-- Readers of as many numbers that agree on the 28 fields of every node, at least where the lengths pass, give one result.
 use mathlib.Core.Path.{_≡_, refl, sym, ap, _∙_, fun-ext}
 use mathlib.Core.Bool.{Bool, true, false, _||_}
 use mathlib.Core.List.{List, []}
@@ -28,9 +28,9 @@ use Rattle.tables.proofs.ScanLaws.{next-yes, next-no}
 use Rattle.tables.proofs.Passing.{then-pass-1, if-pass}
 use Rattle.columns.specs.Reader.{Reader, lengthWith, sizeWith, rectWith, measureWith, styleWith, siteWith, cellWith, pageWith, cellsWith, badTablesWith, badStyleWith, badNumbersWith, no4With, no5With, pageTestedWith, layoutTestedWith, relayoutTestedWith, sizeTestedWith, layoutWith, relayoutWith, sizeResultWith}
 
--- the 27 numbers of every node are the same
+-- the 28 numbers of every node are the same
 abbrev pub Alike : Reader → Reader → Type 0
-Alike r s = (i f : ℕ) → f < 27 → r .number i f ≡ s .number i f
+Alike r s = (i f : ℕ) → f < 28 → r .number i f ≡ s .number i f
 
 -- a scan over what agrees as far as it goes
 scan-same : {A : Type 0} (p t : ℕ → Bool) (hit : ℕ → A) (none : A) (i n : ℕ) → ((k : ℕ) → k < i + n → p k ≡ t k) → scan p hit none i n ≡ scan t hit none i n
@@ -48,7 +48,7 @@ module _ (r s : Reader) (alike : Alike r s) (ws : List ℕ) where
   unfolding styleWith sizeWith rectWith measureWith lengthWith
   same-style i j =
       let x = alike j in
-      simp (x 0 (omega arith), x 1 (omega arith), x 2 (omega arith), x 3 (omega arith), x 4 (omega arith), x 5 (omega arith), x 6 (omega arith), x 7 (omega arith), x 8 (omega arith), x 9 (omega arith), x 10 (omega arith), x 11 (omega arith), x 12 (omega arith), x 13 (omega arith), x 14 (omega arith), x 15 (omega arith), x 16 (omega arith), x 17 (omega arith), x 18 (omega arith), x 19 (omega arith), x 20 (omega arith), x 21 (omega arith), x 22 (omega arith), x 23 (omega arith), x 24 (omega arith), x 25 (omega arith), x 26 (omega arith))
+      simp (x 0 (omega arith), x 1 (omega arith), x 2 (omega arith), x 3 (omega arith), x 4 (omega arith), x 5 (omega arith), x 6 (omega arith), x 7 (omega arith), x 8 (omega arith), x 9 (omega arith), x 10 (omega arith), x 11 (omega arith), x 12 (omega arith), x 13 (omega arith), x 14 (omega arith), x 15 (omega arith), x 16 (omega arith), x 17 (omega arith), x 18 (omega arith), x 19 (omega arith), x 20 (omega arith), x 21 (omega arith), x 22 (omega arith), x 23 (omega arith), x 24 (omega arith), x 25 (omega arith), x 26 (omega arith), x 27 (omega arith))
 
   same-site : (es : List ℕ) (k : ℕ) → siteWith r ws es k ≡ siteWith s ws es k
   unfolding siteWith
@@ -76,7 +76,7 @@ module _ (r s : Reader) (alike : Alike r s) (ws : List ℕ) where
       let x = alike i in
       let unit : ℕ → ℕ = unitOf (wordAt ws i 2) (wordAt ws i 3) in
       let fields : some (λ f. badField f (unit f) (r .number i f)) 22 ≡ some (λ f. badField f (unit f) (s .number i f)) 22 = scan-same (λ f. badField f (unit f) (r .number i f)) (λ f. badField f (unit f) (s .number i f)) (λ _. true) false 0 22 (λ k l. ap (badField k (unit k)) (x k (omega arith))) in
-      simp (fields, x 22 (omega arith), x 23 (omega arith), x 24 (omega arith), x 25 (omega arith), x 26 (omega arith))
+      simp (fields, x 22 (omega arith), x 23 (omega arith), x 24 (omega arith), x 25 (omega arith), x 26 (omega arith), x 27 (omega arith))
 
   same-page-tests : (q : LayoutInput) → pageTestedWith r ws q ≡ pageTestedWith s ws q
   unfolding pageTestedWith no4With

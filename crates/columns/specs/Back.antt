@@ -16,9 +16,9 @@ use Rattle.style.specs.Style.{planeOf, numberAt}
 use Rattle.style.specs.Planes.{number-in}
 use Rattle.columns.specs.Order.{byRow, remade, fieldAt, byColumn, remade-long, remade-in, remade-past, as-long}
 
--- numbers that stand field by field, put node by node: place k gets number k % 27 of node k / 27
+-- numbers that stand field by field, put node by node: place k gets number k % 28 of node k / 28
 abbrev pub nodeAt : List Float → ℕ → Float
-nodeAt xs k = numberAt xs (k / 27) (k % 27)
+nodeAt xs k = numberAt xs (k / 28) (k % 28)
 
 unfoldable pub byNode : List Float → List Float
 byNode xs = remade (nodeAt xs) xs
@@ -28,23 +28,23 @@ unfolding byNode
 node-long xs = remade-long (nodeAt xs) xs
 
 -- number f of node i of the table put back
-node-place : (xs : List Float) (i f : ℕ) → f < 27 → nodeAt xs (i * 27 + f) ≡ numberAt xs i f
+node-place : (xs : List Float) (i f : ℕ) → f < 28 → nodeAt xs (i * 28 + f) ≡ numberAt xs i f
 node-place xs i f g = cc (digits-div i g, digits-mod i g)
 
-put-back : (xs : List Float) (i f : ℕ) → i < planeOf xs → f < 27 → byRow (byNode xs) i f ≡ numberAt xs i f
+put-back : (xs : List Float) (i f : ℕ) → i < planeOf xs → f < 28 → byRow (byNode xs) i f ≡ numberAt xs i f
 unfolding byNode
-put-back xs i f h g = remade-in (nodeAt xs) xs (i * 27 + f) (omega arith) ∙ node-place xs i f g
+put-back xs i f h g = remade-in (nodeAt xs) xs (i * 28 + f) (omega arith) ∙ node-place xs i f g
 
 -- a place of the planes is that of a number of a node
-place-of : (xs : List Float) (k : ℕ) → k < 27 * planeOf xs → numberAt xs (k % planeOf xs) (k / planeOf xs) ≡ getD xs k zeroF
+place-of : (xs : List Float) (k : ℕ) → k < 28 * planeOf xs → numberAt xs (k % planeOf xs) (k / planeOf xs) ≡ getD xs k zeroF
 place-of xs k h =
     number-in xs (k % planeOf xs) (k / planeOf xs) (mod-lt k (omega arith)) ∙ ap (λ (j : ℕ). getD xs j zeroF) (div-add-mod' k (planeOf xs))
 
 module _ (xs : List Float) where
   long : planeOf (byNode xs) ≡ planeOf xs
-  long = ap (λ (k : ℕ). k / 27) (node-long xs)
+  long = ap (λ (k : ℕ). k / 28) (node-long xs)
 
-  within : (k : ℕ) → k < 27 * planeOf xs → getD (byColumn (byNode xs)) k zeroF ≡ getD xs k zeroF
+  within : (k : ℕ) → k < 28 * planeOf xs → getD (byColumn (byNode xs)) k zeroF ≡ getD xs k zeroF
   unfolding byColumn
   within k h =
       remade-in (fieldAt (byNode xs)) (byNode xs) k (rw long h)
@@ -52,13 +52,13 @@ module _ (xs : List Float) where
       ∙ put-back xs (k % planeOf xs) (k / planeOf xs) (mod-lt k (omega arith)) (div-lt-iff-lt-mul (omega arith) .1 h)
       ∙ place-of xs k h
 
-  past : (k : ℕ) → 27 * planeOf xs ≤ k → getD (byColumn (byNode xs)) k zeroF ≡ getD xs k zeroF
+  past : (k : ℕ) → 28 * planeOf xs ≤ k → getD (byColumn (byNode xs)) k zeroF ≡ getD xs k zeroF
   unfolding byColumn byNode
   past k h = remade-past (fieldAt (byNode xs)) (byNode xs) k (rw long h) ∙ remade-past (nodeAt xs) xs k h
 
   pub every-table : byColumn (byNode xs) ≡ xs
-  every-table = ext-getD zeroF (byColumn (byNode xs)) xs (as-long (byNode xs) ∙ node-long xs) (λ k l. go k (ltb k (27 * planeOf xs)) refl)
+  every-table = ext-getD zeroF (byColumn (byNode xs)) xs (as-long (byNode xs) ∙ node-long xs) (λ k l. go k (ltb k (28 * planeOf xs)) refl)
     where
-      go : (k : ℕ) (b : Bool) → ltb k (27 * planeOf xs) ≡ b → getD (byColumn (byNode xs)) k zeroF ≡ getD xs k zeroF
-      go k true t = within k (ltb-true k (27 * planeOf xs) t)
-      go k false t = past k (ltb-false k (27 * planeOf xs) t)
+      go : (k : ℕ) (b : Bool) → ltb k (28 * planeOf xs) ≡ b → getD (byColumn (byNode xs)) k zeroF ≡ getD xs k zeroF
+      go k true t = within k (ltb-true k (28 * planeOf xs) t)
+      go k false t = past k (ltb-false k (28 * planeOf xs) t)

@@ -17,8 +17,8 @@ use Rattle.columns.specs.Order.{rows, columns, byColumn, as-long, lookup
 use Rattle.columns.specs.Engine.{layout-is, relayout-is, size-is}
 use Rattle.columns.specs.Alike.{Alike, same-layout, same-relayout, same-size}
 
--- lengths that pass: 27 numbers for each node
-whole-nodes : (r : Reader) (ws : List ℕ) → badTablesWith r ws ≡ false → r .lent ≡ 27 * nodesIn ws
+-- lengths that pass: 28 numbers for each node
+whole-nodes : (r : Reader) (ws : List ℕ) → badTablesWith r ws ≡ false → r .lent ≡ 28 * nodesIn ws
 unfolding badTablesWith
 whole-nodes r ws e =
     eqb-true _ _ (not-false _ (or-right (not (eqb (length ws) (4 * nodesIn ws))) _ (or-right (ltb 1024 (nodesIn ws)) _ (or-right (eqb (nodesIn ws) 0) _ e))))

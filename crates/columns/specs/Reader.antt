@@ -5,11 +5,12 @@ use Prim.Native.Nat.{ℕ, _+_, _*_}
 use lib.ListN.{length}
 use lib.Dec.{eqb, ltb}
 use lib.Ieee.{Float, eq, lt}
+use Rattle.limits.specs.Limits.{inRange}
 use Rattle.geometry.specs.Geometry.{zeroF}
 use Rattle.length.specs.declared.Length.{Length}
 use Rattle.length.specs.declared.LengthRect.{LengthRect}
 use Rattle.length.specs.declared.LengthSize.{LengthSize}
-use Rattle.style.specs.Codes.{unitOf, lengthOf, ratioOf}
+use Rattle.style.specs.Codes.{unitOf, lengthOf, ratioOf, baselineOf}
 use Rattle.style.specs.Style.{wordAt, styleAt}
 use Rattle.style.specs.declared.Measure.{Measure}
 use Rattle.style.specs.declared.Style.{Style}
@@ -50,8 +51,9 @@ rectWith r ws i j f =
       left = lengthWith r ws i j (f + 3);
     }
 
-unfoldable pub measureWith : Reader → ℕ → Measure
-measureWith r j = record { least = r .number j 24; most = r .number j 25; height = r .number j 26 }
+unfoldable pub measureWith : Reader → List ℕ → ℕ → ℕ → Measure
+measureWith r ws i j =
+    record { least = r .number j 24; most = r .number j 25; height = r .number j 26; baseline = baselineOf (wordAt ws i 1) (r .number j 27) }
 
 -- what the words alone say is as in a style with no numbers
 unfoldable pub styleWith : Reader → List ℕ → ℕ → ℕ → Style
@@ -74,7 +76,7 @@ styleWith r ws i j =
       inset = rectWith r ws i j 18;
       ratio = ratioOf (r .number j 22);
       scrollbar = r .number j 23;
-      measure = measureWith r j;
+      measure = measureWith r ws i j;
     }
 
 -- ---- the page of the tables, and with its old rows
@@ -92,7 +94,7 @@ cellsWith r ws rs ms es = parseT (cellWith r ws rs ms es) (nodesIn ws)
 
 -- ---- the tests that look at numbers: 1, 3, 4 and 5
 unfoldable pub badTablesWith : Reader → List ℕ → Bool
-badTablesWith r ws = eqb (nodesIn ws) 0 || (ltb 1024 (nodesIn ws) || (not (eqb (length ws) (4 * nodesIn ws)) || not (eqb (r .lent) (27 * nodesIn ws))))
+badTablesWith r ws = eqb (nodesIn ws) 0 || (ltb 1024 (nodesIn ws) || (not (eqb (length ws) (4 * nodesIn ws)) || not (eqb (r .lent) (28 * nodesIn ws))))
 
 unfoldable pub badStyleWith : Reader → List ℕ → ℕ → Bool
 badStyleWith r ws i = (not (eq (r .number i 22) zeroF) && (fractionAt ws i 1 || (fractionAt ws i 3 || fractionAt ws i 5))) || badCodes ws i
@@ -103,7 +105,7 @@ badNumbersWith r ws i =
     || (badRatio (r .number i 22)
     || (badPixels (r .number i 23)
     || (badPixels (r .number i 24)
-    || (badPixels (r .number i 25) || (badPixels (r .number i 26) || lt (r .number i 25) (r .number i 24))))))
+    || (badPixels (r .number i 25) || (badPixels (r .number i 26) || (lt (r .number i 25) (r .number i 24) || not (inRange (r .number i 27) zeroF (r .number i 26))))))))
 
 unfoldable pub no4With : Reader → List ℕ → LayoutInput → Tested
 no4With r ws q = andThen (atFault Numbers (lowest (badNumbersWith r ws) (nodesIn ws))) (refuseIf (badQuestion q) (Numbers (nodesIn ws)))

@@ -62,7 +62,7 @@ pub kind-is : (ws : List ℕ) (xs : List Float) (b : ℕ) → kindOf (codeAt (wo
 unfolding styleAt
 kind-is ws xs b = refl
 
-pub measure-is : (ws : List ℕ) (xs : List Float) (b : ℕ) → measureAt xs b ≡ styleAt ws 0 xs b .measure
+pub measure-is : (ws : List ℕ) (xs : List Float) (b : ℕ) → measureAt ws 0 xs b ≡ styleAt ws 0 xs b .measure
 unfolding styleAt
 measure-is ws xs b = refl
 

@@ -69,7 +69,7 @@ pub fn compute_block_layout(
     ensures { λ r. ⌜ LaidT (now (words .entry)) (now (numbers .entry)) (now (rows .entry)) (now (marks .entry)) (now (edits .entry)) base q found r (now (rows .exit)) (now (marks .exit)) ⌝ }
 {
     if is_leaf(words) {
-        let o = heights::leaf_at(numbers, base, q);
+        let o = heights::leaf_at(words, numbers, base, q);
         put_leaf(rows, marks, q, o);
         return o;
     }

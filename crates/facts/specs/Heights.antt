@@ -44,7 +44,7 @@ readReply r ks = paper (r .answer) .0 ∷ paper (r .answer) .1 ∷ readAt (r .ro
 unfoldable pub heightResult : HeightPage → List ℕ
 heightResult p =
     readReply
-    (layoutResult (p .words) (numbersOf (p .numbers) (replicate (27 * nodesIn (p .words)) zeroF)) (replicate (16 * nodesIn (p .words)) zeroF) (replicate (2 * nodesIn (p .words)) 0) [] [] (rootInput (heightQuestion p)))
+    (layoutResult (p .words) (numbersOf (p .numbers) (replicate (28 * nodesIn (p .words)) zeroF)) (replicate (16 * nodesIn (p .words)) zeroF) (replicate (2 * nodesIn (p .words)) 0) [] [] (rootInput (heightQuestion p)))
     (p .read)
 
 -- ---- fields with a length of their own, beside those of Pages

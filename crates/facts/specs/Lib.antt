@@ -1,3 +1,4 @@
 pub mod Pages
 pub mod Heights
 pub mod Shrunk
+pub mod Baselines

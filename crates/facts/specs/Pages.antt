@@ -76,7 +76,7 @@ answerTo (rows ks) ws xs q = readRows (layoutResult ws xs (replicate (16 * nodes
 answerTo (size a) ws xs q = readSize (sizePaper (sizeResult ws xs (rootInput q) a))
 
 unfoldable pub resultOf : Checked → List ℕ
-resultOf p = answerTo (p .asked) (p .words) (numbersOf (p .numbers) (replicate (27 * nodesIn (p .words)) zeroF)) (checkedQuestion p)
+resultOf p = answerTo (p .asked) (p .words) (numbersOf (p .numbers) (replicate (28 * nodesIn (p .words)) zeroF)) (checkedQuestion p)
 
 -- ---- nodes: padding and border are pixels; to that come the fields with a length of their own
 abbrev pub height : ℕ

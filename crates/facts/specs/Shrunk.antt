@@ -34,7 +34,7 @@ abbrev shrunkWords : List ℕ
 shrunkWords = block 3 0 (block 2 halfWide (leaf 0 []))
 
 abbrev shrunkNumbers : List Float
-shrunkNumbers = numbersOf (given 1 0 half ∷ given 2 24 px80 ∷ given 2 25 px80 ∷ given 2 26 px10 ∷ []) (replicate (27 * nodesIn shrunkWords) zeroF)
+shrunkNumbers = numbersOf (given 1 0 half ∷ given 2 24 px80 ∷ given 2 25 px80 ∷ given 2 26 px10 ∷ []) (replicate (28 * nodesIn shrunkWords) zeroF)
 
 -- F finds 80, the leaf's; J gives the box 40, asked and answered, and the leaf 40 in it
 pub half-of-the-found : readRows (layoutResult shrunkWords shrunkNumbers (replicate (16 * nodesIn shrunkWords) zeroF) (replicate (2 * nodesIn shrunkWords) 0) [] [] (rootInput shrinkQuestion)) (2 ∷ 24 ∷ 18 ∷ 34 ∷ []) ≡ 0 ∷ px80 ∷ px40 ∷ px40 ∷ px40 ∷ []

@@ -3,6 +3,7 @@ ghost use mathlib.Core.Path.{_≡_};
 ghost use mathlib.Core.Bool.{_||_};
 ghost use Rattle.style.specs.Style.{measureAt, styleAt};
 ghost use Rattle.steps.specs.Stack.{atTop};
+ghost use Rattle.steps.specs.Baseline.{shifted, blockBaseline};
 ghost use Rattle.steps.specs.Through.{stepN, passedOut, outputOf, finished, leafOutput};
 ghost use Rattle.steps.specs.Height.{extraOf, stepK, stepL, heldOpen, stillOwnEnd, stepM};
 use geometry::Size;
@@ -108,8 +109,36 @@ fn passed_out(passed: bool, set: CollapsibleMarginSet, own: f32) -> CollapsibleM
     }
 }
 
-fn output_of(s: Style, q: LayoutInput, f: Frame, c: Cursor, height: f32) -> LayoutOutput
-    ensures { λ r. ⌜ r ≡ outputOf s q f c height ⌝ }
+// Step M moves a baseline too.
+fn shifted(b: OptionF32, shift: OptionF32) -> OptionF32
+    ensures { λ r. ⌜ r ≡ shifted b shift ⌝ }
+{
+    match shift {
+        OptionF32::None => b,
+        OptionF32::Some(d) => b.maybe_add(d),
+    }
+}
+
+// A container's baseline, of the first one found in its stack.
+fn block_baseline(s: Style, b: OptionF32, shift: OptionF32) -> OptionF32
+    ensures { λ r. ⌜ r ≡ blockBaseline s b shift ⌝ }
+{
+    if s.contained {
+        OptionF32::None
+    } else {
+        shifted(b, shift)
+    }
+}
+
+fn output_of(
+    s: Style,
+    q: LayoutInput,
+    f: Frame,
+    c: Cursor,
+    height: f32,
+    shift: OptionF32,
+) -> LayoutOutput
+    ensures { λ r. ⌜ r ≡ outputOf s q f c height shift ⌝ }
 {
     let margin = s.margin;
     let mt = margin.top;
@@ -117,6 +146,7 @@ fn output_of(s: Style, q: LayoutInput, f: Frame, c: Cursor, height: f32) -> Layo
     let parent = q.parent;
     let top = c.top;
     let strut = c.strut;
+    let baseline = c.baseline;
     let size = Size {
         width: f.width,
         height,
@@ -130,6 +160,7 @@ fn output_of(s: Style, q: LayoutInput, f: Frame, c: Cursor, height: f32) -> Layo
             length::resolve_or_zero(mb, parent),
         ),
         through: can_be_collapsed_through(f, c, height),
+        baseline: block_baseline(s, baseline, shift),
     }
 }
 
@@ -139,9 +170,10 @@ pub fn finish(s: Style, q: LayoutInput, f: Frame, c: Cursor) -> Finished
 {
     let content = content_height(f, c);
     let height = outer_height(f, content);
+    let shift = shift_of(s, f, height, content);
     Finished {
-        output: output_of(s, q, f, c, height),
-        shift: shift_of(s, f, height, content),
+        output: output_of(s, q, f, c, height, shift),
+        shift,
     }
 }
 
@@ -167,6 +199,7 @@ pub fn leaf_output(m: Measure, q: LayoutInput) -> LayoutOutput
     let kw = known.width;
     let kh = known.height;
     let available = q.available;
+    let baseline = m.baseline;
     let size = Size {
         width: kw.unwrap_or(widths::leaf_width(m, available)),
         height: kh.unwrap_or(m.height),
@@ -176,22 +209,13 @@ pub fn leaf_output(m: Measure, q: LayoutInput) -> LayoutOutput
         top: CollapsibleMarginSet::zero(),
         bottom: CollapsibleMarginSet::zero(),
         through: false,
+        baseline,
     }
 }
 
-fn measure_of(numbers: &[f32], j: usize) -> Measure
-    ensures { λ r. ⌜ r ≡ measureAt (now (numbers .entry)) j ⌝ }
+// The answer of the first node here, leaf j: of its style it asks its table alone.
+pub fn leaf_at(words: &[u32], numbers: &[f32], j: usize, q: LayoutInput) -> LayoutOutput
+    ensures { λ r. ⌜ r ≡ leafOutput (measureAt (now (words .entry)) 0 (now (numbers .entry)) j) q ⌝ }
 {
-    Measure {
-        least: style::number(numbers, j, 24),
-        most: style::number(numbers, j, 25),
-        height: style::number(numbers, j, 26),
-    }
-}
-
-// The answer of leaf j: of its style it asks its table alone.
-pub fn leaf_at(numbers: &[f32], j: usize, q: LayoutInput) -> LayoutOutput
-    ensures { λ r. ⌜ r ≡ leafOutput (measureAt (now (numbers .entry)) j) q ⌝ }
-{
-    leaf_output(measure_of(numbers, j), q)
+    leaf_output(style::measure_at(words, 0, numbers, j), q)
 }

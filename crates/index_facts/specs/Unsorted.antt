@@ -13,7 +13,7 @@ use Rattle.tree.specs.Table.{from, parseF, parseT}
 use Rattle.edges.specs.Edges.{edgesT, shapeOf, edgeAt, outward, edgeBy}
 use Rattle.edges.specs.Tests.{badWords, laidTested}
 use Rattle.steps.specs.Scan.{scan, howMany}
-use Rattle.steps.specs.Noes.{badRows, holds, badTree, noAuto, badUnit, badWord, badSafety, badAlign, badCodes, atFault, andThen, no2, no7}
+use Rattle.steps.specs.Noes.{badRows, holds, badTree, noAuto, badUnit, badWord, badSafety, badBaseline, badAlign, badCodes, atFault, andThen, no2, no7}
 use Rattle.scroll.specs.Running.{runningFrom}
 use Rattle.scroll.specs.Halving.{beyond, halved}
 use Rattle.scroll.specs.Scroll.{isFinite, position, scrollAnswer}
@@ -48,7 +48,7 @@ bits l = map (toBits binary32) l
 
 -- an index of it is made
 pub accepted : indexAnswer words rows marks list 3 3 3 ≡ Made
-unfolding words rows marks indexAnswer indexMisfit uneven afterTests listAnswer byEntry badEntry notAbove noLaidLeaf badWords laidTested badRows no2 no7 andThen atFault badTree badCodes badUnit badWord badSafety badAlign noAuto holds scan howMany wordAt unitOf
+unfolding words rows marks indexAnswer indexMisfit uneven afterTests listAnswer byEntry badEntry notAbove noLaidLeaf badWords laidTested badRows no2 no7 andThen atFault badTree badCodes badUnit badWord badSafety badBaseline badAlign noAuto holds scan howMany wordAt unitOf
 accepted = refl
 
 -- tops 0, -10, 0; bottoms 50, 0, 10; running largest 50, 50, 50

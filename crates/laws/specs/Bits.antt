@@ -1,6 +1,6 @@
 -- What the bits of a laid row say, and what a row says of the questions noted in it.
 use mathlib.Core.Path.{_≡_, refl, sym, ap, _∙_}
-use mathlib.Core.Bool.{Bool, true, false, Bool·beq}
+use mathlib.Core.Bool.{Bool, true, false, cond, Bool·beq}
 use Prim.Native.Nat.{ℕ, _+_, _*_, _/_, _%_, _<_}
 use native.Mathlib.Omega.{arith}
 use lib.Dec.{eqb}
@@ -29,62 +29,77 @@ use Rattle.steps.specs.declared.ProbeInput.{ProbeInput}
 use Rattle.steps.specs.declared.Frame.{Frame}
 use Rattle.steps.proofs.Codes.{kind-small, code-small}
 
--- a laid row's bits: through, known height given, the probe code, height basis given
-abbrev bitsOf : Bool → Bool → Bool → ℕ → ℕ
-bitsOf t h b c = 1 + 2 * bit t + 8 * bit h + 16 * c + 256 * bit b
+-- a laid row's bits: through, known height given, the probe code, height basis given, baseline given
+abbrev bitsOf : Bool → Bool → Bool → Bool → ℕ → ℕ
+bitsOf t h b v c = 1 + 2 * bit t + 8 * bit h + 16 * c + 256 * bit b + 512 * bit v
 
 -- a bit is below 2, which is all that the sums below want
 bit-small : (b : Bool) → bit b < 2
 bit-small true = omega arith
 bit-small false = omega arith
 
-bits-laid : (t h b : Bool) (c : ℕ) → bitsOf t h b c / 1 % 2 ≡ 1
-bits-laid t h b c = let x = bit-small t in let y = bit-small h in let z = bit-small b in omega arith
+bits-laid : (t h b v : Bool) (c : ℕ) → bitsOf t h b v c / 1 % 2 ≡ 1
+bits-laid t h b v c = let x = bit-small t in let y = bit-small h in let z = bit-small b in let w = bit-small v in omega arith
 
-bits-through : (t h b : Bool) (c : ℕ) → bitsOf t h b c / 2 % 2 ≡ bit t
-bits-through t h b c = let x = bit-small t in let y = bit-small h in let z = bit-small b in omega arith
+bits-through : (t h b v : Bool) (c : ℕ) → bitsOf t h b v c / 2 % 2 ≡ bit t
+bits-through t h b v c = let x = bit-small t in let y = bit-small h in let z = bit-small b in let w = bit-small v in omega arith
 
-bits-given : (t h b : Bool) (c : ℕ) → bitsOf t h b c / 8 % 2 ≡ bit h
-bits-given t h b c = let x = bit-small t in let y = bit-small h in let z = bit-small b in omega arith
+bits-given : (t h b v : Bool) (c : ℕ) → bitsOf t h b v c / 8 % 2 ≡ bit h
+bits-given t h b v c = let x = bit-small t in let y = bit-small h in let z = bit-small b in let w = bit-small v in omega arith
 
-bits-code : (t h b : Bool) (c : ℕ) → bitsOf t h b c / 16 ≡ c + 16 * bit b
-bits-code t h b c = let x = bit-small t in let y = bit-small h in let z = bit-small b in omega arith
+bits-code : (t h b v : Bool) (c : ℕ) → bitsOf t h b v c / 16 ≡ c + 16 * bit b + 32 * bit v
+bits-code t h b v c = let x = bit-small t in let y = bit-small h in let z = bit-small b in let w = bit-small v in omega arith
 
-bits-low : (t h b : Bool) (c : ℕ) → bitsOf t h b c % 16 ≡ 1 + 2 * bit t + 8 * bit h
-bits-low t h b c = let x = bit-small t in let y = bit-small h in let z = bit-small b in omega arith
+bits-low : (t h b v : Bool) (c : ℕ) → bitsOf t h b v c % 16 ≡ 1 + 2 * bit t + 8 * bit h
+bits-low t h b v c = let x = bit-small t in let y = bit-small h in let z = bit-small b in let w = bit-small v in omega arith
 
-bits-high : (t h b : Bool) (c : ℕ) → c < 16 → bitsOf t h b c / 256 ≡ bit b
-bits-high t h b c p = let x = bit-small t in let y = bit-small h in let z = bit-small b in omega arith
+bits-high : (t h b v : Bool) (c : ℕ) → c < 16 → bitsOf t h b v c / 256 ≡ bit b + 2 * bit v
+bits-high t h b v c p = let x = bit-small t in let y = bit-small h in let z = bit-small b in let w = bit-small v in omega arith
 
-bits-based : (t h b : Bool) (c : ℕ) → c < 16 → bitsOf t h b c / 256 % 2 ≡ bit b
-bits-based t h b c p = let x = bit-small t in let y = bit-small h in let z = bit-small b in omega arith
+bits-based : (t h b v : Bool) (c : ℕ) → c < 16 → bitsOf t h b v c / 256 % 2 ≡ bit b
+bits-based t h b v c p = let x = bit-small t in let y = bit-small h in let z = bit-small b in let w = bit-small v in omega arith
+
+bits-lined : (t h b v : Bool) (c : ℕ) → c < 16 → bitsOf t h b v c / 512 % 2 ≡ bit v
+bits-lined t h b v c p = let x = bit-small t in let y = bit-small h in let z = bit-small b in let w = bit-small v in omega arith
 
 is-bit : (b : Bool) → eqb (bit b) 1 ≡ b
 is-bit true = refl
 is-bit false = refl
 
-bits-kept : (t h b : Bool) (c d : ℕ) → c < 16 → withCode (bitsOf t h b c) d ≡ bitsOf t h b d
+bits-kept : (t h b v : Bool) (c d : ℕ) → c < 16 → withCode (bitsOf t h b v c) d ≡ bitsOf t h b v d
 unfolding withCode
-bits-kept t h b c d p = rw (bits-low t h b c, bits-high t h b c p) (omega arith)
+bits-kept t h b v c d p = rw (bits-low t h b v c, bits-high t h b v c p) (omega arith)
 
-bits-below : (t h b : Bool) (c d : ℕ) → c < 16 → laidBits (bitsOf t h b c) d ≡ bitsOf t h b d
+bits-below : (t h b v : Bool) (c d : ℕ) → c < 16 → laidBits (bitsOf t h b v c) d ≡ bitsOf t h b v d
 unfolding laidBits
-bits-below t h b c d p = rw (bits-through t h b c, bits-given t h b c, bits-high t h b c p) (omega arith)
+bits-below t h b v c d p = rw (bits-through t h b v c, bits-given t h b v c, bits-high t h b v c p) (omega arith)
 
 -- a laid row, wherever it is placed: laid, its answer, its probe words
 pub laid-row : (q : LayoutInput) (o : LayoutOutput) (p : ProbeWords) → isLaid (laidRow q o p) ≡ true
 unfolding isLaid laidRow
-laid-row q o p = rw (bits-laid (o .through) (isSome (q .known .height)) (isSome (q .basis)) (p .code))
+laid-row q o p = rw (bits-laid (o .through) (isSome (q .known .height)) (isSome (q .basis)) (isSome (o .baseline)) (p .code))
 
-pub out-row : (q : LayoutInput) (o : LayoutOutput) (p : ProbeWords) (x : Point) (n : ℕ) → outputIn (putAt x n (laidRow q o p)) ≡ o
+-- a number that may be absent, from its number and its bit
+option-back : (o : OptionF32) → cond (isSome o) (Some (orZero o)) None ≡ o
+unfolding isSome orZero
+option-back None = refl
+option-back (Some x) = refl
+
+pub out-row : (q : LayoutInput) (o : LayoutOutput) (p : ProbeWords) (x : Point) (n : ℕ) → p .code < 16 → outputIn (putAt x n (laidRow q o p)) ≡ o
 unfolding outputIn putAt laidRow
-out-row q o p x n = rw (bits-through (o .through) (isSome (q .known .height)) (isSome (q .basis)) (p .code), is-bit (o .through))
+out-row q o p x n h =
+    let lined = bits-lined (o .through) (isSome (q .known .height)) (isSome (q .basis)) (isSome (o .baseline)) (p .code) h in
+    rw (lined, is-bit (isSome (o .baseline)), option-back (o .baseline), bits-through (o .through) (isSome (q .known .height)) (isSome (q .basis)) (isSome (o .baseline)) (p .code), is-bit (o .through))
+
+pub lined-row : (q : LayoutInput) (o : LayoutOutput) (p : ProbeWords) → p .code < 16 → flagAt (laidRow q o p .bits) 9 ≡ isSome (o .baseline)
+unfolding laidRow
+lined-row q o p h = rw (bits-lined (o .through) (isSome (q .known .height)) (isSome (q .basis)) (isSome (o .baseline)) (p .code) h, is-bit (isSome (o .baseline)))
 
 pub words-row : (q : LayoutInput) (o : LayoutOutput) (p : ProbeWords) → p .code < 16 → probeOf (laidRow q o p) ≡ p
 unfolding probeOf laidRow
 words-row q o p h =
-    let e : (p .code + 16 * bit (isSome (q .basis))) % 16 ≡ p .code = omega arith in
-    rw (bits-code (o .through) (isSome (q .known .height)) (isSome (q .basis)) (p .code), e)
+    let e : (p .code + 16 * bit (isSome (q .basis)) + 32 * bit (isSome (o .baseline))) % 16 ≡ p .code = omega arith in
+    rw (bits-code (o .through) (isSome (q .known .height)) (isSome (q .basis)) (isSome (o .baseline)) (p .code), e)
 
 pub row-small : (r : Row) → probeOf r .code < 16
 unfolding probeOf
@@ -94,7 +109,7 @@ row-small r = omega arith
 kept-words : (r : Row) (w p : ProbeWords) (q : LayoutInput) (o : LayoutOutput) (x y : Point) (m n : ℕ) → r ≡ putAt x m (laidRow q o p) → p .code < 16
     → putAt y n (noted r w (withCode (r .bits) (w .code))) ≡ putAt y n (laidRow q o w)
 unfolding putAt noted laidRow
-kept-words r w p q o x y m n e h = rw e (rw (bits-kept (o .through) (isSome (q .known .height)) (isSome (q .basis)) (p .code) (w .code) h))
+kept-words r w p q o x y m n e h = rw e (rw (bits-kept (o .through) (isSome (q .known .height)) (isSome (q .basis)) (isSome (o .baseline)) (p .code) (w .code) h))
 
 pub kept-row : (l : Node) (p : ProbeWords) (q : LayoutInput) (o : LayoutOutput) (x y : Point) (m n : ℕ) → l .old ≡ putAt x m (laidRow q o p) → p .code < 16
     → putAt y n (keptRow l) ≡ putAt y n (laidRow q o (l .probe))
@@ -104,7 +119,7 @@ kept-row l p q o x y m n e h = kept-words (l .old) (l .probe) p q o x y m n e h
 below-words : (r : Row) (w p : ProbeWords) (q : LayoutInput) (o : LayoutOutput) (x : Point) (m : ℕ) → r ≡ putAt x m (laidRow q o p) → p .code < 16
     → noted r w (laidBits (r .bits) (w .code)) ≡ putAt x m (laidRow q o w)
 unfolding putAt noted laidRow
-below-words r w p q o x m e h = rw e (rw (bits-below (o .through) (isSome (q .known .height)) (isSome (q .basis)) (p .code) (w .code) h))
+below-words r w p q o x m e h = rw e (rw (bits-below (o .through) (isSome (q .known .height)) (isSome (q .basis)) (isSome (o .baseline)) (p .code) (w .code) h))
 
 pub below-row : (l : Node) (p : ProbeWords) (q : LayoutInput) (o : LayoutOutput) (x : Point) (m : ℕ) → l .old ≡ putAt x m (laidRow q o p) → p .code < 16
     → belowRow l ≡ putAt x m (laidRow q o (l .probe))
@@ -179,10 +194,10 @@ final-is f g s o p x n r e c h =
     let i : r .asked .parent ≡ orZero (Some (innerWidth f)) = same-is _ _ (and-fst (sameF (r .asked .parent) _) _ h4) in
     let k : sameF (orZero (askedHeight b)) (orZero (askedHeight a)) ≡ true = ap (λ (v : Float). sameF v (orZero (askedHeight a))) (sym (ap (λ (z : Row). z .asked .height) e)) ∙ and-fst (sameF (r .asked .height) _) _ h2 in
     let m : flagAt (r .bits) 3 ≡ isSome (askedHeight a) = beq-is _ _ (and-fst (Bool·beq (flagAt (r .bits) 3) _) _ h3) in
-    let z : isSome (askedHeight b) ≡ isSome (askedHeight a) = sym (ap (λ (v : Row). flagAt (v .bits) 3) e ∙ rw (bits-given (o .through) (isSome (askedHeight b)) (isSome (g .heightBasis)) (p .code), is-bit (isSome (askedHeight b)))) ∙ m in
+    let z : isSome (askedHeight b) ≡ isSome (askedHeight a) = sym (ap (λ (v : Row). flagAt (v .bits) 3) e ∙ rw (bits-given (o .through) (isSome (askedHeight b)) (isSome (g .heightBasis)) (isSome (o .baseline)) (p .code), is-bit (isSome (askedHeight b)))) ∙ m in
     let u : sameF (orZero (g .heightBasis)) (orZero (f .heightBasis)) ≡ true = ap (λ (v : Float). sameF v (orZero (f .heightBasis))) (sym (ap (λ (z : Row). z .asked .basis) e)) ∙ and-fst (sameF (r .asked .basis) _) _ h5 in
     let t : flagAt (r .bits) 8 ≡ isSome (f .heightBasis) = beq-is _ _ (and-snd (sameF (r .asked .basis) _) _ h5) in
-    let y : isSome (g .heightBasis) ≡ isSome (f .heightBasis) = sym (ap (λ (v : Row). flagAt (v .bits) 8) e ∙ rw (bits-based (o .through) (isSome (askedHeight b)) (isSome (g .heightBasis)) (p .code) c, is-bit (isSome (g .heightBasis)))) ∙ t in
+    let y : isSome (g .heightBasis) ≡ isSome (f .heightBasis) = sym (ap (λ (v : Row). flagAt (v .bits) 8) e ∙ rw (bits-based (o .through) (isSome (askedHeight b)) (isSome (g .heightBasis)) (isSome (o .baseline)) (p .code) c, is-bit (isSome (g .heightBasis)))) ∙ t in
     same-input _ _ _ _ _ _ _ _ _ (some-is _ _ (sym w ∙ ap (λ (v : Row). v .asked .width) e)) (some-is _ _ (sym i ∙ ap (λ (v : Row). v .asked .parent) e)) (sym (option-is _ _ k z)) (sym (option-is _ _ u y))
 
 -- the same of a probe: its three numbers and code settle what stands

@@ -45,7 +45,7 @@ abbrev wrap : Style
 wrap = styleAt (1 ∷ 0 ∷ 0x5500000 ∷ 0x55 ∷ []) 0 [] 0
 
 abbrev high : ℕ → Style
-high h = styleAt (1 ∷ 0 ∷ 0x5500004 ∷ 0x55 ∷ []) 0 (zeroF ∷ ofBits binary32 h ∷ replicate 25 zeroF) 0
+high h = styleAt (1 ∷ 0 ∷ 0x5500004 ∷ 0x55 ∷ []) 0 (zeroF ∷ ofBits binary32 h ∷ replicate 26 zeroF) 0
 
 abbrev asked : LayoutInput
 asked = record { known = record { width = Some (ofBits binary32 0x42c8_0000); height = None }; parent = Some (ofBits binary32 0x42c8_0000); basis = None; definiteHeight = false; available = MaxContent; collapseStart = false; collapseEnd = false; nested = false }

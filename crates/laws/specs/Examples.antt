@@ -32,7 +32,7 @@ unfoldable pub stackWords : List ℕ
 stackWords = 4 ∷ 0 ∷ 0x5500000 ∷ 0x55 ∷ 1 ∷ 0 ∷ 0x5500004 ∷ 0x55 ∷ 2 ∷ 0 ∷ 0x5500000 ∷ 0x55 ∷ 1 ∷ 0 ∷ 0x5500004 ∷ 0x55 ∷ []
 
 unfoldable pub stackWas : List ℕ
-stackWas = set (set (replicate 108 0) (numberPlace 4 1 1) 0x41200000) (numberPlace 4 3 1) 0x40a00000
+stackWas = set (set (replicate 112 0) (numberPlace 4 1 1) 0x41200000) (numberPlace 4 3 1) 0x40a00000
 
 unfoldable pub stackNow : List ℕ
 stackNow = set stackWas (numberPlace 4 1 1) 0x41a00000
@@ -72,7 +72,7 @@ unfoldable pub probeWords : List ℕ
 probeWords = 4 ∷ 0 ∷ 0x5500000 ∷ 0x55 ∷ 2 ∷ 0 ∷ 0x5500000 ∷ 0x55 ∷ 1 ∷ 1 ∷ 0x5500000 ∷ 0x55 ∷ 1 ∷ 0 ∷ 0x5500005 ∷ 0x55 ∷ []
 
 unfoldable pub probeWas : List ℕ
-probeWas = set (set (set (set (set (replicate 108 0) (numberPlace 4 2 24) 0x41f00000) (numberPlace 4 2 25) 0x42200000) (numberPlace 4 2 26) 0x40e00000) (numberPlace 4 3 0) 0x42700000) (numberPlace 4 3 1) 0x41200000
+probeWas = set (set (set (set (set (replicate 112 0) (numberPlace 4 2 24) 0x41f00000) (numberPlace 4 2 25) 0x42200000) (numberPlace 4 2 26) 0x40e00000) (numberPlace 4 3 0) 0x42700000) (numberPlace 4 3 1) 0x41200000
 
 unfoldable pub probeNow : List ℕ
 probeNow = set probeWas (numberPlace 4 3 0) 0x42a00000

@@ -222,7 +222,7 @@ keep-alike l ks q p n e v = record {
     own = own-row nowF oldWords l ks q zeroF p n e
 
     kept-out : keep (node (againN l) (mapF againN ks)) .out ≡ layT (mapT seenN (node l ks)) q zeroF .out
-    kept-out = keep-out (againN l) (mapF againN ks) ∙ ap outputIn own ∙ out-row q _ (oldWords l) p n
+    kept-out = keep-out (againN l) (mapF againN ks) ∙ ap outputIn own ∙ out-row q _ (oldWords l) p n (row-small (l .both .old))
 
     kids : fixF (mapF againN ks) ≡ kidsT (layT (node (afterN l) (mapF afterN ks)) q zeroF .rows)
     kids = kids-fixed l ks q zeroF p n e v (λ d f c r. fix-F ks (leaves-kids l ks v) d f c r)

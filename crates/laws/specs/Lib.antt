@@ -3,6 +3,8 @@ pub mod Final
 pub mod Widths
 pub mod Afresh
 pub mod Bits
+pub mod Small
+pub mod Restyled
 pub mod Pages
 pub mod Along
 pub mod Fix

@@ -18,10 +18,10 @@ use Rattle.steps.specs.declared.Tested.the-variants.{Pass}
 use Rattle.laws.specs.Pages.{LeavesT}
 use Rattle.laws.specs.Below.{belowKept}
 
--- node i has the same four words and 27 numbers
+-- node i has the same four words and 28 numbers
 pub record SameAt (ws : List ℕ) (xs : List Float) (ws′ : List ℕ) (xs′ : List Float) (i : ℕ) : Type 0 where
   pub words : (k : ℕ) → k < 4 → wordAt ws i k ≡ wordAt ws′ i k
-  pub numbers : (f : ℕ) → f < 27 → numberAt xs i f ≡ numberAt xs′ i f
+  pub numbers : (f : ℕ) → f < 28 → numberAt xs i f ≡ numberAt xs′ i f
 
 -- the same shape: as many nodes, the sizes of all subtrees equal
 pub record SameShape (ws : List ℕ) (ws′ : List ℕ) : Type 0 where

@@ -52,6 +52,16 @@ module _ {A : Type 0} where
   mutual
     unfolding AllT
 
+    pub all-and-T : (P Q : A → Type 0) (t : Tree A) → AllT P t → AllT Q t → AllT (λ a. P a × Q a) t
+    all-and-T P Q (node a ks) h k = ((h .0, k .0), all-and-F P Q ks (h .1) (k .1))
+
+    pub all-and-F : (P Q : A → Type 0) (ts : Forest A) → AllF P ts → AllF Q ts → AllF (λ a. P a × Q a) ts
+    all-and-F P Q none h k = tt
+    all-and-F P Q (more t ts) h k = (all-and-T P Q t (h .0) (k .0), all-and-F P Q ts (h .1) (k .1))
+
+  mutual
+    unfolding AllT
+
     pub all-any-T : (P : A → Type 0) → ((a : A) → P a) → (t : Tree A) → AllT P t
     all-any-T P f (node a ks) = (f a, all-any-F P f ks)
 

@@ -15,13 +15,13 @@ use steps::Tested;
 use steps::root_input;
 use tree::NodeId;
 
-// Is one of the numbers 0-14 of row i too large?
+// Is one of the 16 numbers of row i too large?
 fn row_large(rows: &[f32], i: usize) -> bool
     requires { ⌜ 16 * i + 16 ≤ length (now rows) ⌝ }
     ensures { λ r. ⌜ r ≡ badRow (now (rows .entry)) i ⌝ }
 {
     let mut k = 0usize;
-    while k < 15 {
+    while k < 16 {
         if limits::too_large(rows[16 * i + k]) {
             return true;
         }

@@ -142,14 +142,14 @@ nodeText s = fielded 4 s (wordsOf (hexOf (fieldOf s 0)) (hexOf (fieldOf s 1)) (h
 unfoldable pub nodeLine : List ℕ → NodeLine
 nodeLine l = keyed node= l nodeText nodes.Bad
 
--- num= and a field up to 26 with a bit pattern
+-- num= and a field up to 27 with a bit pattern
 unfoldable pub numOf : Value → Value → NumLine
 numOf value.Bad w = nums.Bad
 numOf (value.Is f) value.Bad = nums.Bad
 numOf (value.Is f) (value.Is w) = nums.Is (record { field = f; value = floatOf w })
 
 unfoldable pub numText : List ℕ → NumLine
-numText s = fielded 2 s (numOf (valueOf 10 26 (fieldOf s 0)) (hexOf (fieldOf s 1))) nums.Bad
+numText s = fielded 2 s (numOf (valueOf 10 27 (fieldOf s 0)) (hexOf (fieldOf s 1))) nums.Bad
 
 unfoldable pub numLine : List ℕ → NumLine
 numLine l = keyed num= l numText nums.Bad

@@ -320,7 +320,7 @@ fn num_text(s: &[u8]) -> NumLine
     if text::separators(s, b',') != 1 {
         return NumLine::Bad;
     }
-    num_of(decimal_field(s, 0, 26), hex_field(s, 1))
+    num_of(decimal_field(s, 0, 27), hex_field(s, 1))
 }
 
 // num=

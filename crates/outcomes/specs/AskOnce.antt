@@ -102,8 +102,8 @@ module _ (ws : List ℕ) (xs : List Float) (q : Question) where
   large-row e = go (tooLarge (getD laidRows 2 zeroF)) refl
     where
       go : (b : Bool) → tooLarge (getD laidRows 2 zeroF) ≡ b → badRow laidRows 0 ≡ true
-      go true h = some-is (λ k. tooLarge (getD laidRows (16 * 0 + k) zeroF)) 15 2 (omega arith) h
-      go false h = some-is (λ k. tooLarge (getD laidRows (16 * 0 + k) zeroF)) 15 3 (omega arith) (ap (λ (b : Bool). b || tooLarge (getD laidRows 3 zeroF)) (sym h) ∙ e)
+      go true h = some-is (λ k. tooLarge (getD laidRows (16 * 0 + k) zeroF)) 16 2 (omega arith) h
+      go false h = some-is (λ k. tooLarge (getD laidRows (16 * 0 + k) zeroF)) 16 3 (omega arith) (ap (λ (b : Bool). b || tooLarge (getD laidRows 3 zeroF)) (sym h) ∙ e)
 
   small-row : badRow laidRows 0 ≡ false → largeSize (rootSize laidRows) ≡ false
   small-row e = go (largeSize (rootSize laidRows)) refl

@@ -68,7 +68,7 @@ pub record TablesFit (n count : ℕ) (ws : List ℕ) (xs : List Float) : Type 0 
   pub few : n ≤ 512
   pub so-far : count ≤ n
   pub words-room : 4 * n ≤ length ws
-  pub numbers-room : 27 * n ≤ length xs
+  pub numbers-room : 28 * n ≤ length xs
 
 -- what one line leaves: a count over n if it is bad
 abbrev pub Stepped : ℕ → Step → Tables → ℕ → List ℕ → List Float → Type 0

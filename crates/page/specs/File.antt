@@ -24,7 +24,7 @@ pub record Read : Type 0 where
 
 -- 512 nodes at most, and no more than the lent tables take
 unfoldable pub nodeLimit : ℕ → ℕ → ℕ
-nodeLimit lw lx = min 512 (min (lw / 4) (lx / 27))
+nodeLimit lw lx = min 512 (min (lw / 4) (lx / 28))
 
 -- a bad line leaves zeros
 unfoldable pub badFile : ℕ → ℕ → ℕ → Read

@@ -33,7 +33,7 @@ pub enum PageFile {
 fn node_limit(words: &[u32], numbers: &[f32]) -> u32
     ensures { λ r. ⌜ r ≡ nodeLimit (length (now (words .entry))) (length (now (numbers .entry))) ⌝ }
 {
-    smaller(512, smaller(words.len() / 4, numbers.len() / 27)) as u32
+    smaller(512, smaller(words.len() / 4, numbers.len() / 28)) as u32
 }
 
 // The nodes of a page whose first five lines are good.

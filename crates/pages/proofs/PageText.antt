@@ -42,21 +42,21 @@ pub long : {A : Type 0} (m : ℕ) (z : A) (l : List A) → l ≡ replicate m z �
 long m z l e = ap length e ∙ length-replicate m z
 
 module _ (h : Head) (ws : List ℕ) (xs : List Float) (rs : List Float) (ms ps : List ℕ) (ts : List Float) (few : h .count ≤ 512) (lent : Lent rs ms ps ts) where
-  pub laid-text : replyText (h .count) (layoutResult (take (4 * h .count) ws) (take (27 * h .count) xs) (take (16 * h .count) rs) (take (2 * h .count) ms) (take (2 * h .count) ps) (take (3 * h .count) ts) (rootInput (h .question))) ≡ laidPageText h ws xs
+  pub laid-text : replyText (h .count) (layoutResult (take (4 * h .count) ws) (take (28 * h .count) xs) (take (16 * h .count) rs) (take (2 * h .count) ms) (take (2 * h .count) ps) (take (3 * h .count) ts) (rootInput (h .question))) ≡ laidPageText h ws xs
   unfolding laidPageText
   laid-text =
       let n = h .count in
       rw (cut (16 * n) 8192 zeroF rs (lent .rows-zero) (omega arith), cut (2 * n) 1024 0 ms (lent .marks-zero) (omega arith), cut (2 * n) 1024 0 ps (lent .pairs-zero) (omega arith), cut (3 * n) 1536 zeroF ts (lent .triples-zero) (omega arith))
 
 -- a file that is read as a page fits its tables
-pub fits-in : (s : List ℕ) (h : Head) (ws : List ℕ) (xs : List Float) → pageFile 2048 13824 s .file ≡ Page h → length ws ≡ 2048 → length xs ≡ 13824 → Fits (h .count) ws xs
+pub fits-in : (s : List ℕ) (h : Head) (ws : List ℕ) (xs : List Float) → pageFile 2048 14336 s .file ≡ Page h → length ws ≡ 2048 → length xs ≡ 14336 → Fits (h .count) ws xs
 unfolding nodeLimit
 fits-in s h ws xs e a b =
-    let f = page-fits 2048 13824 s h e in
+    let f = page-fits 2048 14336 s h e in
     record { few = omega (arith, f); words-long = omega (arith, f); numbers-long = omega (arith, f) }
 
 -- the output of a bad file, and of a page
-module _ (s : List ℕ) (r : PageFile) (ws : List ℕ) (xs : List Float) (read : ReadAs (pageFile 2048 13824 s) r ws xs) where
+module _ (s : List ℕ) (r : PageFile) (ws : List ℕ) (xs : List Float) (read : ReadAs (pageFile 2048 14336 s) r ws xs) where
   pub bad-output : (k : ℕ) → r ≡ BadLine k → badText k ≡ outputText s
   unfolding outputText fileText
   bad-output k e = rw (sym (read .file-is) ∙ e)

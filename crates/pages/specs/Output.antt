@@ -21,7 +21,7 @@ replyText n r = pageText (r .answer) n (r .rows) (r .marks) (r .words) (r .numbe
 -- a page that was read, laid out in zeroed memory for its nodes and as many records
 unfoldable pub laidPageText : Head → List ℕ → List Float → List ℕ
 laidPageText h ws xs =
-    replyText (h .count) (layoutResult (take (4 * h .count) ws) (take (27 * h .count) xs) (replicate (16 * h .count) zeroF) (replicate (2 * h .count) 0) (replicate (2 * h .count) 0) (replicate (3 * h .count) zeroF) (rootInput (h .question)))
+    replyText (h .count) (layoutResult (take (4 * h .count) ws) (take (28 * h .count) xs) (replicate (16 * h .count) zeroF) (replicate (2 * h .count) 0) (replicate (2 * h .count) 0) (replicate (3 * h .count) zeroF) (rootInput (h .question)))
 
 unfoldable pub fileText : PageFile → List ℕ → List Float → List ℕ
 fileText (BadLine k) ws xs = badText k
@@ -30,14 +30,14 @@ fileText (Page h) ws xs = laidPageText h ws xs
 -- every byte string: a bad line, a refusal, or boxes and candidates. Tables for 512 nodes.
 unfoldable pub outputText : List ℕ → List ℕ
 outputText s =
-    let f = pageFile 2048 13824 s in
+    let f = pageFile 2048 14336 s in
     fileText (f .file) (f .words) (f .numbers)
 
 -- the tables hold n nodes
 pub record Fits (n : ℕ) (ws : List ℕ) (xs : List Float) : Type 0 where
   pub few : n ≤ 512
   pub words-long : 4 * n ≤ length ws
-  pub numbers-long : 27 * n ≤ length xs
+  pub numbers-long : 28 * n ≤ length xs
 
 -- zeroed memory for 512 nodes
 pub record Lent (rs : List Float) (ms ps : List ℕ) (ts : List Float) : Type 0 where

@@ -50,7 +50,7 @@ fn lay_in(
         q,
         n,
         &words[..4 * n],
-        &numbers[..27 * n],
+        &numbers[..28 * n],
         &mut rows[..16 * n],
         &mut marks[..2 * n],
         &mut pairs[..2 * n],
@@ -85,7 +85,7 @@ pub fn page_output(text: &[u8], out: &mut [u8]) -> usize
     ensures { λ r. ⌜ Shown (outputText (now (text .entry))) (now (out .entry)) (now (out .exit)) r ⌝ }
 {
     let mut words = [0u32; 2048];
-    let mut numbers = [0.0f32; 13824];
+    let mut numbers = [0.0f32; 14336];
     let file = page::read_page(text, &mut words, &mut numbers);
     match file {
         PageFile::BadLine(k) => print::print_bad(out, k),

@@ -1,7 +1,7 @@
 -- A page without a fraction of a height has the rows that it had before percent heights, but for number 14 and bit 8.
 use mathlib.Core.Path.{_≡_, refl, sym, ap, _∙_}
 use mathlib.Core.Bool.{Bool, true, false}
-use Prim.Native.Nat.{ℕ, _+_, _*_, _/_, _%_}
+use Prim.Native.Nat.{ℕ, _+_, _*_, _/_, _%_, _<_}
 use native.Mathlib.Omega.{arith}
 use lib.Dec.{eqb}
 use lib.Ieee.{Float}
@@ -35,7 +35,8 @@ use Rattle.steps.specs.declared.BlockItem.{BlockItem}
 use Rattle.steps.proofs.Clauses.{styleT, byTest, byFlow, layT-leaf, layT-block, layF-none, layF-gone, layF-out, layF-in, askT-new}
 use Rattle.steps.proofs.Cells.{pass-cells, cellIn}
 use Rattle.steps.proofs.Zeros.{no-row, unlaid-kept}
-use Rattle.laws.specs.Trees.{AllT, AllF, all-T, all-map-T, all-back-T}
+use Rattle.laws.specs.Trees.{AllT, AllF, all-T, all-and-T, all-map-T, all-back-T}
+use Rattle.laws.specs.Small.{Small, pass-small}
 use Rattle.percent.specs.Parts.{NoHeightParts, whole-sizing, whole-offset}
 
 -- ---- the final pass as it was: no frame has a basis for heights. Of a fresh page, where nothing is kept.
@@ -79,7 +80,7 @@ before t q =
     let p = widthPass (mapT blank t) q in
     beforeT (p .nodes) q (p .found)
 
--- a row without number 14 and bit 8 (no bit above it is ever set)
+-- a row without number 14 and bit 8
 abbrev pub forgot : Row → Row
 forgot r =
     record {
@@ -87,9 +88,8 @@ forgot r =
       answer = r .answer;
       asked = record { width = r .asked .width; height = r .asked .height; parent = r .asked .parent; basis = zeroF };
       probe = r .probe;
-      spare = r .spare;
       order = r .order;
-      bits = r .bits % 256;
+      bits = r .bits % 256 + 512 * (r .bits / 512);
     }
 
 -- ---- the proof
@@ -172,7 +172,7 @@ unfolding placeOf placeX placeY gapOf freeOf innerWidth atTop
 place-same f c i o = refl
 
 step-same : (f : Frame) (c : Cursor) (i : BlockItem) (o : LayoutOutput) → stepped f c i o ≡ stepped (noBasis f) c i o
-unfolding stepped pastBox gapOf atTop
+unfolding stepped placeY pastBox gapOf atTop
 step-same f c i o = refl
 
 line-same : (f : Frame) (c : Cursor) → lineOf f c ≡ lineOf (noBasis f) c
@@ -192,27 +192,38 @@ unfolding leafOutput
 leaf-same l q = refl
 
 -- rows
-no-bit : (a b : ℕ) → (a + 256 * b) % 256 ≡ (a + 256 * 0) % 256
-no-bit a b = omega arith
+no-bit : (a b v : ℕ) → a < 256 → b < 2 → (a + 256 * b + 512 * v) % 256 + 512 * ((a + 256 * b + 512 * v) / 512) ≡ (a + 256 * 0 + 512 * v) % 256 + 512 * ((a + 256 * 0 + 512 * v) / 512)
+no-bit a b v h k = omega arith
 
-row-same : (q : LayoutInput) (o : LayoutOutput) (p : ProbeWords) → forgot (laidRow q o p) ≡ forgot (laidRow (unbased q) o p)
+bit-small : (b : Bool) → bit b < 2
+bit-small true = omega arith
+bit-small false = omega arith
+
+low-bits : (t g : Bool) (c : ℕ) → c < 16 → 1 + 2 * bit t + 8 * bit g + 16 * c < 256
+low-bits t g c h =
+    let x = bit-small t in
+    let y = bit-small g in
+    omega arith
+
+row-same : (q : LayoutInput) (o : LayoutOutput) (p : ProbeWords) → p .code < 16 → forgot (laidRow q o p) ≡ forgot (laidRow (unbased q) o p)
 unfolding laidRow orZero isSome
-row-same q o p = rw (no-bit (1 + 2 * bit (o .through) + 8 * bit (isSome (q .known .height)) + 16 * p .code) (bit (isSome (q .basis))))
+row-same q o p h =
+    rw (no-bit (1 + 2 * bit (o .through) + 8 * bit (isSome (q .known .height)) + 16 * p .code) (bit (isSome (q .basis))) (bit (isSome (o .baseline))) (low-bits (o .through) (isSome (q .known .height)) (p .code) h) (bit-small (isSome (q .basis))))
 
 put-forgot : (p : Point) (n : ℕ) (t : Tree Row) → mapT forgot (onRoot (putAt p n) t) ≡ onRoot (putAt p n) (mapT forgot t)
 unfolding mapT onRoot putAt
 put-forgot p n (node r ks) = refl
 
-flag-0 : (b : ℕ) → flagAt (b % 256) 0 ≡ flagAt b 0
+flag-0 : (b : ℕ) → flagAt (b % 256 + 512 * (b / 512)) 0 ≡ flagAt b 0
 flag-0 b = ap (λ (n : ℕ). eqb n 1) (go b)
   where
-    go : (b : ℕ) → b % 256 / 1 % 2 ≡ b / 1 % 2
+    go : (b : ℕ) → (b % 256 + 512 * (b / 512)) / 1 % 2 ≡ b / 1 % 2
     go b = omega arith
 
-flag-2 : (b : ℕ) → flagAt (b % 256) 2 ≡ flagAt b 2
+flag-2 : (b : ℕ) → flagAt (b % 256 + 512 * (b / 512)) 2 ≡ flagAt b 2
 flag-2 b = ap (λ (n : ℕ). eqb n 1) (go b)
   where
-    go : (b : ℕ) → b % 256 / 4 % 2 ≡ b / 4 % 2
+    go : (b : ℕ) → (b % 256 + 512 * (b / 512)) / 4 % 2 ≡ b / 4 % 2
     go b = omega arith
 
 lower-forgot : (d : Float) (r : Row) → forgot (lowered d r) ≡ lowered d (forgot r)
@@ -240,19 +251,19 @@ put-same : (p : Point) (n : ℕ) (t u : Tree Row) → mapT forgot t ≡ mapT for
 put-same p n t u e = put-forgot p n t ∙ ap (onRoot (putAt p n)) e ∙ sym (put-forgot p n u)
 
 -- one node
-leaf-node : (l : Node) (q : LayoutInput) (ks : Forest Node) → SameLaid (leafLaid l q ks) (leafLaid l (unbased q) ks)
+leaf-node : (l : Node) (q : LayoutInput) (ks : Forest Node) → Small l → SameLaid (leafLaid l q ks) (leafLaid l (unbased q) ks)
 unfolding leafLaid mapT
-leaf-node l q ks = record {
+leaf-node l q ks v = record {
   same-out = leaf-same l q;
-  same-rows = ap (λ (r : Row). node r (mapF forgot (zerosF ks))) (row-same q (leafOutput (l .site .style .measure) q) (l .probe) ∙ ap (λ (o : LayoutOutput). forgot (laidRow (unbased q) o (l .probe))) (leaf-same l q));
+  same-rows = ap (λ (r : Row). node r (mapF forgot (zerosF ks))) (row-same q (leafOutput (l .site .style .measure) q) (l .probe) v ∙ ap (λ (o : LayoutOutput). forgot (laidRow (unbased q) o (l .probe))) (leaf-same l q));
 }
 
-box-node : (l : Node) (q : LayoutInput) (f : Frame) (a b : Stacked) → SameStack a b → SameLaid (blockLaid l q f a) (blockLaid l (unbased q) (noBasis f) b)
+box-node : (l : Node) (q : LayoutInput) (f : Frame) (a b : Stacked) → Small l → SameStack a b → SameLaid (blockLaid l q f a) (blockLaid l (unbased q) (noBasis f) b)
 unfolding blockLaid mapT
-box-node l q f a b h =
+box-node l q f a b v h =
     let s = l .site .style in
     let d = finish-same s q f (a .last) ∙ ap (finished s (unbased q) (noBasis f)) (h .same-last) in
-    let e = row-same q (finished s q f (a .last) .output) (l .probe) in
+    let e = row-same q (finished s q f (a .last) .output) (l .probe) v in
     record {
       same-out = ap (λ x. x .output) d;
       same-rows = rw (e, align-same (finished s q f (a .last) .shift) (a .rows) (b .rows) (h .same-rows)) (ap (λ x. node (forgot (laidRow (unbased q) (x .output) (l .probe))) (mapF forgot (alignF (x .shift) (b .rows)))) d);
@@ -262,16 +273,17 @@ box-node l q f a b h =
 pub record Plain (n : Node) : Type 0 where
   pub parts : NoHeightParts (n .site .style)
   pub unlaid : isLaid (n .old) ≡ false
+  pub small : Small n
 
 lay-node : (l : Node) (ks : Forest Node) (q : LayoutInput) (found : Float) → Plain l → ((f : Frame) (c : Cursor) → SameStack (layF ks f c) (beforeF ks (noBasis f) c))
     → SameLaid (layT (node l ks) q found) (beforeT (node l ks) (unbased q) found)
 lay-node l ks q found n h = go (isLeaf (l .site .style .kind)) refl
   where
     go : (b : Bool) → isLeaf (l .site .style .kind) ≡ b → SameLaid (layT (node l ks) q found) (beforeT (node l ks) (unbased q) found)
-    go true e = rw (layT-leaf l ks q found e, beforeT-at l ks (unbased q) found true e) (leaf-node l q ks)
+    go true e = rw (layT-leaf l ks q found e, beforeT-at l ks (unbased q) found true e) (leaf-node l q ks (n .small))
     go false e =
         let f : Frame = frameOf (l .site .style) q found in
-        rw (layT-block l ks q found e, beforeT-at l ks (unbased q) found false e, ← frame-same (l .site .style) q found (n .parts), ← start-same f) (box-node l q f _ _ (h f (startOf f)))
+        rw (layT-block l ks q found e, beforeT-at l ks (unbased q) found false e, ← frame-same (l .site .style) q found (n .parts), ← start-same f) (box-node l q f _ _ (n .small) (h f (startOf f)))
 
 -- one child
 skip-same : (c : Cursor) (t : Tree Node) (g h : Cursor → Stacked) → SameStack (g (pastHidden c)) (h (pastHidden c)) → SameStack (skip c t g) (skip c t h)
@@ -340,7 +352,8 @@ unfolding blank
 plain-nodes t q h =
     let a : AllT PlainC (mapT blank t) = all-back-T blank PlainC t (all-T NoPartsAt (λ (s : Site). PlainC (blank s)) (λ s n. (n, no-row)) t h) in
     let b : AllT PlainC (mapT cellIn (widthPass (mapT blank t) q .nodes)) = rw (pass-cells (mapT blank t) q) a in
-    all-T (λ (n : Node). PlainC (cellIn n)) Plain (λ n x. record { parts = x .0; unlaid = x .1 }) _ (all-map-T cellIn PlainC _ b)
+    let both = all-and-T (λ (n : Node). PlainC (cellIn n)) Small _ (all-map-T cellIn PlainC _ b) (pass-small (mapT blank t) q) in
+    all-T (λ (n : Node). PlainC (cellIn n) × Small n) Plain (λ n x. record { parts = x .0 .0; unlaid = x .0 .1; small = x .1 }) _ both
   where
     PlainC : Cell → Type 0
     PlainC c = NoHeightParts (c .site .style) × (isLaid (c .old) ≡ false)

@@ -41,7 +41,8 @@ use Rattle.steps.proofs.Cells.{pass-cells, cellIn}
 use Rattle.steps.proofs.Zeros.{no-row, unlaid-kept, zeros-T, zeros-F}
 use Rattle.laws.specs.Trees.{AllT, AllF, all-T, all-map-T, all-back-T}
 use Rattle.percent.specs.Widths.{autoHeights, Across, acrossOf, RatioAlone, SameAcross, auto-A, sizing-across}
-use Rattle.percent.specs.Probes.{autoSite, autoCell, autoNode, onPassed, auto-flow, known-auto, pass-auto}
+use Rattle.laws.specs.Restyled.{onPassed}
+use Rattle.percent.specs.Probes.{autoSite, autoCell, autoNode, auto-flow, known-auto, pass-auto}
 
 -- ---- frames that are one across
 pub record SameFrame (f g : Frame) : Type 0 where
@@ -336,5 +337,5 @@ pub no-width-moves : (t : Tree Site) (q : Question) → AllT AloneAt t → mapT 
 unfolding fresh relaid
 no-width-moves t q h =
     let p = widthPass (mapT blank t) (rootInput q) in
-    let e : widthPass (mapT blank (mapT autoSite t)) (rootInput q) ≡ onPassed p = ap (λ (u : Tree Cell). widthPass u (rootInput q)) (auto-blank t) ∙ pass-auto (mapT blank t) (rootInput q) in
+    let e : widthPass (mapT blank (mapT autoSite t)) (rootInput q) ≡ onPassed autoHeights p = ap (λ (u : Tree Cell). widthPass u (rootInput q)) (auto-blank t) ∙ pass-auto (mapT blank t) (rootInput q) in
     rw e (same-root (p .nodes) (apart-nodes t (rootInput q) h) (rootInput q) (p .found) (no-root-basis q) .same-rows)

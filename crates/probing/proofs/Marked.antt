@@ -24,7 +24,7 @@ use Rattle.steps.proofs.Clauses.{styleT, layT-leaf, layT-block, layF-gone, layF
 use Rattle.steps.proofs.Zeros.{zeros-T, zeros-F}
 use Rattle.rows.specs.Store.{unlaid}
 use Rattle.probing.specs.Passed.{passedRow, markedCell}
-use Rattle.probing.proofs.ProbeBits.{code-back, flag-0, flag-1, flag-3, flag-8, flag-gone, bits-below}
+use Rattle.probing.proofs.ProbeBits.{code-back, flag-0, flag-1, flag-3, flag-8, flag-9, flag-gone, bits-below}
 use Rattle.probing.proofs.PassedRows.{same-note}
 
 -- what the final pass takes a node for
@@ -69,13 +69,13 @@ kept-passed l = same-note (passedRow l)
 kept-marked : (l : Node) → l .anew ≡ false → keptRow (marked l) ≡ keptRow l
 kept-marked l e = kept-passed l ∙ passed-kept l e
 
-out-by : (r : Row) (p : ProbeWords) (v : Bool) → v ≡ false → outputIn (noted r p (withCode (cond v (unlaid (r .bits)) (r .bits)) (p .code))) ≡ outputIn r
+out-by : (r : Row) (p : ProbeWords) (v : Bool) → p .code < 16 → v ≡ false → outputIn (noted r p (withCode (cond v (unlaid (r .bits)) (r .bits)) (p .code))) ≡ outputIn r
 unfolding outputIn noted
-out-by r p v e = rw (e, flag-1 (r .bits) (p .code))
+out-by r p v h e = rw (e, flag-1 (r .bits) (p .code), flag-9 (r .bits) (p .code) h)
 
-out-marked : (l : Node) → l .anew ≡ false → outputIn (marked l .old) ≡ outputIn (l .old)
+out-marked : (l : Node) → l .probe .code < 16 → l .anew ≡ false → outputIn (marked l .old) ≡ outputIn (l .old)
 unfolding staying markedCell passedRow
-out-marked l e = out-by (l .old) (l .probe) (l .anew) e
+out-marked l h e = out-by (l .old) (l .probe) (l .anew) h e
 
 below-by : (r : Row) (p : ProbeWords) (v : Bool) → p .code < 16
     → noted (noted r p (withCode (cond v (unlaid (r .bits)) (r .bits)) (p .code))) p (laidBits (withCode (cond v (unlaid (r .bits)) (r .bits)) (p .code)) (p .code)) ≡ noted r p (laidBits (r .bits) (p .code))
@@ -142,13 +142,13 @@ kept-new : (l : Node) (ks : Forest Node) (q : LayoutInput) → kept (node l ks) 
 unfolding kept rootT
 kept-new l ks q e = not-anew (anyT editedNode (node l ks)) (l .anew) (finalStands q (l .old)) e
 
-keep-marked : (l : Node) (ks : Forest Node) → l .anew ≡ false → fixF (mapF marked ks) ≡ fixF ks → keep (mapT marked (node l ks)) ≡ keep (node l ks)
+keep-marked : (l : Node) (ks : Forest Node) → l .probe .code < 16 → l .anew ≡ false → fixF (mapF marked ks) ≡ fixF ks → keep (mapT marked (node l ks)) ≡ keep (node l ks)
 unfolding keep
-keep-marked l ks e i = rw (mapT-node marked l ks, out-marked l e, kept-marked l e, i)
+keep-marked l ks h e i = rw (mapT-node marked l ks, out-marked l h e, kept-marked l e, i)
 
 ask-node : (l : Node) (ks : Forest Node) (q : LayoutInput) (b : Bool) → l .probe .code < 16 → kept (node l ks) q ≡ b → fixF (mapF marked ks) ≡ fixF ks → layT (mapT marked (node l ks)) q zeroF ≡ layT (node l ks) q zeroF
     → askT (mapT marked (node l ks)) q ≡ askT (node l ks) q
-ask-node l ks q true s e i h = askT-kept (mapT marked (node l ks)) q (kept-node l ks q s ∙ e) ∙ keep-marked l ks (kept-new l ks q e) i ∙ sym (askT-kept (node l ks) q e)
+ask-node l ks q true s e i h = askT-kept (mapT marked (node l ks)) q (kept-node l ks q s ∙ e) ∙ keep-marked l ks s (kept-new l ks q e) i ∙ sym (askT-kept (node l ks) q e)
 ask-node l ks q false s e i h = askT-new (mapT marked (node l ks)) q (kept-node l ks q s ∙ e) ∙ h ∙ sym (askT-new (node l ks) q e)
 
 ask-of : (t : Tree Node) → CodesT t → (q : LayoutInput) → layT (mapT marked t) q zeroF ≡ layT t q zeroF → askT (mapT marked t) q ≡ askT t q

@@ -61,6 +61,12 @@ flag-3 b c = ap (λ (n : ℕ). eqb n 1) (fourth b c)
 pub flag-8 : (b c : ℕ) → c < 16 → flagAt (withCode b c) 8 ≡ flagAt b 8
 flag-8 b c h = ap (λ (n : ℕ). eqb (n % 2) 1) (high b c h)
 
+half : (n : ℕ) → n / 512 % 2 ≡ n / 256 / 2 % 2
+half n = omega arith
+
+pub flag-9 : (b c : ℕ) → c < 16 → flagAt (withCode b c) 9 ≡ flagAt b 9
+flag-9 b c h = ap (λ (n : ℕ). eqb n 1) (half (withCode b c) ∙ ap (λ (n : ℕ). n / 2 % 2) (high b c h) ∙ sym (half b))
+
 pub flag-gone : (b c : ℕ) → flagAt (withCode (unlaid b) c) 0 ≡ false
 flag-gone b c = ap (λ (n : ℕ). eqb n 1) (one (withCode (unlaid b) c) ∙ low (unlaid b) c ∙ low-gone b)
 

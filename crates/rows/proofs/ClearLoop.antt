@@ -29,9 +29,9 @@ unfolding clearedRow noted noProbe
 stored r q z n e =
     let a = r .place .x ∷ r .place .y ∷ r .answer .size .width ∷ r .answer .size .height ∷ r .answer .top .positive ∷ r .answer .top .negative ∷ r .answer .bottom .positive ∷ r .answer .bottom .negative ∷ r .asked .width ∷ r .asked .height ∷ r .asked .parent ∷ [] in
     rw (
-      set-in q a (r .probe .width) (r .probe .height ∷ r .probe .answer ∷ r .asked .basis ∷ r .spare ∷ z) zeroF (n + 11) (ap (λ (k : ℕ). k + 11) e),
-      set-in q (a ++ (zeroF ∷ [])) (r .probe .height) (r .probe .answer ∷ r .asked .basis ∷ r .spare ∷ z) zeroF (n + 11 + 1) (omega arith),
-      set-in q (a ++ (zeroF ∷ zeroF ∷ [])) (r .probe .answer) (r .asked .basis ∷ r .spare ∷ z) zeroF (n + 11 + 2) (omega arith),
+      set-in q a (r .probe .width) (r .probe .height ∷ r .probe .answer ∷ r .asked .basis ∷ r .answer .baseline ∷ z) zeroF (n + 11) (ap (λ (k : ℕ). k + 11) e),
+      set-in q (a ++ (zeroF ∷ [])) (r .probe .height) (r .probe .answer ∷ r .asked .basis ∷ r .answer .baseline ∷ z) zeroF (n + 11 + 1) (omega arith),
+      set-in q (a ++ (zeroF ∷ zeroF ∷ [])) (r .probe .answer) (r .asked .basis ∷ r .answer .baseline ∷ z) zeroF (n + 11 + 2) (omega arith),
     )
 
 marked : (r : Row) (q z : List ℕ) (n b : ℕ) → length q ≡ n → b ≡ withCode (getD (q ++ (rowWords r ++ z)) (n + 1) 0) 0 → set (q ++ (rowWords r ++ z)) (n + 1) b ≡ q ++ (rowWords (clearedRow r) ++ z)

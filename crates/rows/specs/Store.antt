@@ -31,8 +31,8 @@ pub record Whole (rs : List Float) (ms : List ℕ) : Type 0 where
   pub marks-long : length ms ≡ 2 * n
 
 -- the bits of a laid row, the old probe bits kept
-unfoldable pub headBits : ℕ → Bool → Bool → Bool → ℕ
-headBits old through given based = 1 + 2 * bit through + 8 * bit given + 16 * (old / 16 % 16) + 256 * bit based
+unfoldable pub headBits : ℕ → Bool → Bool → Bool → Bool → ℕ
+headBits old through given based lined = 1 + 2 * bit through + 8 * bit given + 16 * (old / 16 % 16) + 256 * bit based + 512 * bit lined
 
 -- bit 0 taken away
 unfoldable pub unlaid : ℕ → ℕ

@@ -1,10 +1,11 @@
 // Result rows in lent memory: 16 numbers and two words a node.
 ghost use mathlib.Core.Path.{_≡_};
-ghost use mathlib.Core.Bool.{Bool·beq, _&&_};
+ghost use mathlib.Core.Bool.{Bool·beq, cond, _&&_};
 ghost use mathlib.Core.List.{_++_};
 ghost use Prim.Native.Nat.{_+_, _-_, _*_, _≤_, _<_};
 ghost use lib.ListN.{length, replicate};
 ghost use Rattle.geometry.specs.Geometry.{zeroF};
+ghost use Rattle.util.specs.declared.OptionF32.the-variants.{None, Some};
 ghost use Rattle.steps.specs.Row.{Row, bit, rowNumbers, rowWords, laidRow, putAt, asideRow, hiddenRow, outputIn, probeOf, availableKind, probeCode, withCode};
 ghost use Rattle.steps.specs.Kept.{finalStands};
 ghost use Rattle.steps.specs.Probe.{probeStands};
@@ -19,6 +20,7 @@ use steps::LayoutInput;
 use steps::LayoutOutput;
 use steps::ProbeInput;
 use tree::Order;
+use util::OptionF32;
 
 pub fn one(b: bool) -> u32
     ensures is { λ r. ⌜ r ≡ bit b ⌝ }
@@ -48,10 +50,15 @@ pub fn clear_marks(marks: &mut [u32])
 }
 
 // The bits of a laid row: the old probe bits stay.
-fn head_bits(old: u32, through: bool, given: bool, based: bool) -> u32
-    ensures { λ r. ⌜ r ≡ headBits old through given based ⌝ }
+fn head_bits(old: u32, through: bool, given: bool, based: bool, lined: bool) -> u32
+    ensures { λ r. ⌜ r ≡ headBits old through given based lined ⌝ }
 {
-    1 + 2 * one(through) + 8 * one(given) + 16 * (old / 16 % 16) + 256 * one(based)
+    1
+        + 2 * one(through)
+        + 8 * one(given)
+        + 16 * (old / 16 % 16)
+        + 256 * one(based)
+        + 512 * one(lined)
 }
 
 // A node's own row: the answer, the question as asked; the probe words stay.
@@ -67,6 +74,7 @@ pub fn put_head(rows: &mut [f32], marks: &mut [u32], q: LayoutInput, o: LayoutOu
     let size = o.size;
     let top = o.top;
     let bottom = o.bottom;
+    let baseline = o.baseline;
     rows[0] = 0.0;
     rows[1] = 0.0;
     rows[2] = size.width;
@@ -79,9 +87,15 @@ pub fn put_head(rows: &mut [f32], marks: &mut [u32], q: LayoutInput, o: LayoutOu
     rows[9] = kh.or_zero();
     rows[10] = parent.or_zero();
     rows[14] = basis.or_zero();
-    rows[15] = 0.0;
+    rows[15] = baseline.or_zero();
     marks[0] = 0;
-    marks[1] = head_bits(marks[1], o.through, kh.is_some(), basis.is_some());
+    marks[1] = head_bits(
+        marks[1],
+        o.through,
+        kh.is_some(),
+        basis.is_some(),
+        baseline.is_some(),
+    );
 }
 
 pub fn put_place(rows: &mut [f32], marks: &mut [u32], p: Point, order: Order)
@@ -119,6 +133,17 @@ pub fn put_hidden(rows: &mut [f32], marks: &mut [u32], count: u32)
     marks[0] = count;
 }
 
+// A number that bit 9 says is there.
+fn given(b: bool, x: f32) -> OptionF32
+    ensures { λ r. ⌜ r ≡ cond b (Some x) None ⌝ }
+{
+    if b {
+        OptionF32::Some(x)
+    } else {
+        OptionF32::None
+    }
+}
+
 // The answer that a laid row holds.
 pub fn output_in(rows: &[f32], marks: &[u32]) -> LayoutOutput
     requires { ⌜ OneRow (now rows) (now marks) ⌝ }
@@ -141,6 +166,7 @@ pub fn output_in(rows: &[f32], marks: &[u32]) -> LayoutOutput
         top,
         bottom,
         through: style::flag(marks[1], 1),
+        baseline: given(style::flag(marks[1], 9), rows[15]),
     }
 }
 

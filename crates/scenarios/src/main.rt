@@ -161,7 +161,7 @@ fn one_edit(
 // Every child of the page is kept.
 fn unchanged() {
     let mut words = [0u32; 52];
-    let mut numbers = [0.0f32; 351];
+    let mut numbers = [0.0f32; 364];
     let mut rows = [0.0f32; 208];
     let mut marks = [0u32; 26];
     let q = known(320.0);
@@ -173,7 +173,7 @@ fn unchanged() {
 // The rows below the notice are kept as they are, at other places.
 fn notice_grows() {
     let mut words = [0u32; 52];
-    let mut numbers = [0.0f32; 351];
+    let mut numbers = [0.0f32; 364];
     let mut rows = [0.0f32; 208];
     let mut marks = [0u32; 26];
     let q = known(320.0);
@@ -186,7 +186,7 @@ fn notice_grows() {
 // Rows that held zeros are laid; the orders after them move up by one.
 fn row_is_shown() {
     let mut words = [0u32; 52];
-    let mut numbers = [0.0f32; 351];
+    let mut numbers = [0.0f32; 364];
     let mut rows = [0.0f32; 208];
     let mut marks = [0u32; 26];
     let q = known(320.0);
@@ -199,7 +199,7 @@ fn row_is_shown() {
 // No child of the page is kept. 9 and 10 are: the export row is 200 pixels wide as before, so they are asked the same.
 fn frame_narrows() {
     let mut words = [0u32; 52];
-    let mut numbers = [0.0f32; 351];
+    let mut numbers = [0.0f32; 364];
     let mut rows = [0.0f32; 208];
     let mut marks = [0u32; 26];
     start(
@@ -216,7 +216,7 @@ fn frame_narrows() {
 // Each relayout starts from the rows that the one before it left.
 fn chain() {
     let mut words = [0u32; 52];
-    let mut numbers = [0.0f32; 351];
+    let mut numbers = [0.0f32; 364];
     let mut rows = [0.0f32; 208];
     let mut marks = [0u32; 26];
     let q = known(320.0);
@@ -239,7 +239,7 @@ fn chain() {
 // A probe that stands in its row is answered from there, also where the page turns wider and its node is not kept.
 fn width_from_content() {
     let mut words = [0u32; 52];
-    let mut numbers = [0.0f32; 351];
+    let mut numbers = [0.0f32; 364];
     let mut rows = [0.0f32; 208];
     let mut marks = [0u32; 26];
     let q = unknown(AvailableSpace::MaxContent);
@@ -257,7 +257,7 @@ fn width_from_content() {
 // The probes ask for another width, so each is asked anew.
 fn width_available() {
     let mut words = [0u32; 52];
-    let mut numbers = [0.0f32; 351];
+    let mut numbers = [0.0f32; 364];
     let mut rows = [0.0f32; 208];
     let mut marks = [0u32; 26];
     let q = unknown(AvailableSpace::MaxContent);
@@ -270,7 +270,7 @@ fn width_available() {
 // A list that leaves a change out breaks what a caller owes. The import row is kept, at its new place with its old height.
 fn change_not_named() {
     let mut words = [0u32; 52];
-    let mut numbers = [0.0f32; 351];
+    let mut numbers = [0.0f32; 364];
     let mut rows = [0.0f32; 208];
     let mut marks = [0u32; 26];
     let q = known(320.0);
@@ -291,7 +291,7 @@ fn change_not_named() {
 // Heights that are parts of their container's: it alone is named when it grows, and the boxes in it follow.
 fn half_heights() {
     let mut words = [0u32; 52];
-    let mut numbers = [0.0f32; 351];
+    let mut numbers = [0.0f32; 364];
     let mut rows = [0.0f32; 208];
     let mut marks = [0u32; 26];
     let q = known(320.0);

@@ -88,7 +88,7 @@ pub fn put_word(words: &mut [u32], node: usize, k: usize, v: u32) {
 // Number f of a node.
 pub fn put(numbers: &mut [f32], node: usize, f: usize, v: f32) {
     if node < NODES {
-        if f < 27 {
+        if f < 28 {
             let at = style::number_place(NODES, node, f);
             if at < numbers.len() {
                 numbers[at] = v;

@@ -2,6 +2,7 @@
 ghost use mathlib.Core.Path.{_≡_};
 ghost use mathlib.Core.Bool.{cond};
 ghost use Prim.Native.Nat.{_+_, _<_};
+ghost use Rattle.steps.specs.Baseline.{atPlace, baselinePast};
 ghost use Rattle.steps.specs.Stack.{innerWidth, startOf, negOpt, offsetX, relativeOffset, offsetBy, itemOf, askedWidth, askedHeight, childInput, topMargins, bottomMargins, atTop, gapOf, freeOf, shareOf, placeX, placeY, placeOf, pastThrough, pastBox, stepped, lineOf, edgesOf, pastAside, pastHidden, Counts};
 use geometry::Line;
 use geometry::Point;
@@ -36,6 +37,7 @@ pub fn start_of(f: Frame) -> Cursor
         top: CollapsibleMarginSet::zero(),
         first: true,
         allThrough: true,
+        baseline: OptionF32::None,
         shown: Order(0),
         count: 0,
     }
@@ -248,9 +250,14 @@ fn next_shown(o: Order) -> Order
     Order(o.0 + 1)
 }
 
-fn past_through(c: Cursor, t: CollapsibleMarginSet, b: CollapsibleMarginSet) -> Cursor
+fn past_through(
+    c: Cursor,
+    t: CollapsibleMarginSet,
+    b: CollapsibleMarginSet,
+    baseline: OptionF32,
+) -> Cursor
     requires { ⌜ Counts c ⌝ }
-    ensures { λ r. ⌜ r ≡ pastThrough c t b ⌝ }
+    ensures { λ r. ⌜ r ≡ pastThrough c t b baseline ⌝ }
 {
     let strut = c.strut;
     let top = c.top;
@@ -261,6 +268,7 @@ fn past_through(c: Cursor, t: CollapsibleMarginSet, b: CollapsibleMarginSet) -> 
         top: pick_set(c.first, top.collapse_with_set(t).collapse_with_set(b), top),
         first: c.first,
         allThrough: c.allThrough,
+        baseline,
         shown: next_shown(shown),
         count: c.count + 1,
     }
@@ -272,9 +280,16 @@ fn pick_set(c: bool, a: CollapsibleMarginSet, b: CollapsibleMarginSet) -> Collap
     if c { a } else { b }
 }
 
-fn past_box(f: Frame, c: Cursor, t: CollapsibleMarginSet, b: CollapsibleMarginSet, h: f32) -> Cursor
+fn past_box(
+    f: Frame,
+    c: Cursor,
+    t: CollapsibleMarginSet,
+    b: CollapsibleMarginSet,
+    h: f32,
+    baseline: OptionF32,
+) -> Cursor
     requires { ⌜ Counts c ⌝ }
-    ensures { λ r. ⌜ r ≡ pastBox f c t b h ⌝ }
+    ensures { λ r. ⌜ r ≡ pastBox f c t b h baseline ⌝ }
 {
     let top = c.top;
     let shown = c.shown;
@@ -285,8 +300,31 @@ fn past_box(f: Frame, c: Cursor, t: CollapsibleMarginSet, b: CollapsibleMarginSe
         top: pick_set(c.first, top.collapse_with_set(t), top),
         first: false,
         allThrough: false,
+        baseline,
         shown: next_shown(shown),
         count: c.count + 1,
+    }
+}
+
+// A child's baseline in its container: its place is worked out only where it has one.
+fn baseline_at(f: Frame, c: Cursor, i: BlockItem, o: LayoutOutput) -> OptionF32
+    ensures { λ r. ⌜ r ≡ atPlace (placeY f c i o) (o .baseline) ⌝ }
+{
+    let own = o.baseline;
+    match own {
+        OptionF32::None => OptionF32::None,
+        OptionF32::Some(b) => OptionF32::Some(place_y(f, c, i, o) + b),
+    }
+}
+
+// The first baseline past a child.
+fn baseline_past(f: Frame, c: Cursor, i: BlockItem, o: LayoutOutput) -> OptionF32
+    ensures { λ r. ⌜ r ≡ baselinePast (c .baseline) (placeY f c i o) (o .baseline) ⌝ }
+{
+    let first = c.baseline;
+    match first {
+        OptionF32::None => baseline_at(f, c, i, o),
+        OptionF32::Some(b) => OptionF32::Some(b),
     }
 }
 
@@ -298,10 +336,11 @@ pub fn stepped_past(f: Frame, c: Cursor, i: BlockItem, o: LayoutOutput) -> Curso
     let size = o.size;
     let t = top_margins(i, o);
     let b = bottom_margins(i, o);
+    let baseline = baseline_past(f, c, i, o);
     if o.through {
-        past_through(c, t, b)
+        past_through(c, t, b, baseline)
     } else {
-        past_box(f, c, t, b, size.height)
+        past_box(f, c, t, b, size.height, baseline)
     }
 }
 
@@ -330,6 +369,7 @@ pub fn past_aside(c: Cursor) -> Cursor
 {
     let strut = c.strut;
     let top = c.top;
+    let baseline = c.baseline;
     let shown = c.shown;
     Cursor {
         y: c.y,
@@ -337,6 +377,7 @@ pub fn past_aside(c: Cursor) -> Cursor
         top,
         first: c.first,
         allThrough: c.allThrough,
+        baseline,
         shown: next_shown(shown),
         count: c.count + 1,
     }
@@ -348,6 +389,7 @@ pub fn past_hidden(c: Cursor) -> Cursor
 {
     let strut = c.strut;
     let top = c.top;
+    let baseline = c.baseline;
     let shown = c.shown;
     Cursor {
         y: c.y,
@@ -355,6 +397,7 @@ pub fn past_hidden(c: Cursor) -> Cursor
         top,
         first: c.first,
         allThrough: c.allThrough,
+        baseline,
         shown,
         count: c.count + 1,
     }

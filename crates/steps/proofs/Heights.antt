@@ -53,7 +53,7 @@ not-floored = refl
 
 -- the row of a question with this basis
 abbrev noted : OptionF32 → Row
-noted basis = laidRow (asks None basis true) (record { size = record { width = eighty; height = zeroF }; top = noMargins; bottom = noMargins; through = false }) noProbe
+noted basis = laidRow (asks None basis true) (record { size = record { width = eighty; height = zeroF }; top = noMargins; bottom = noMargins; through = false; baseline = None }) noProbe
 
 -- it stands for its own basis alone; a basis of 0 is not none
 pub own-basis : map (λ (b : OptionF32). finalStands (asks None b true) (noted (Some zeroF))) (Some zeroF ∷ Some ten ∷ None ∷ []) ≡ true ∷ false ∷ false ∷ []

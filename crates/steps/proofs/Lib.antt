@@ -1,6 +1,7 @@
 pub mod Answers
 pub mod Computed
 pub mod Heights
+pub mod Baselines
 pub mod Clauses
 pub mod Shape
 pub mod Codes

@@ -10,6 +10,7 @@ pub mod Probe
 pub mod Context
 pub mod HeightBasis
 pub mod Edges
+pub mod Baseline
 pub mod Stack
 pub mod Height
 pub mod Through

@@ -45,10 +45,10 @@ unfoldable pub andThen : Tested → Tested → Tested
 andThen Pass r = r
 andThen (Refuse a) r = Refuse a
 
--- 1: no node, over 1,024, or slice lengths not 4n and 27n (and 16n, 2n)
+-- 1: no node, over 1,024, or slice lengths not 4n and 28n (and 16n, 2n)
 unfoldable pub badTables : List ℕ → List Float → Bool
 badTables ws xs =
-    eqb (nodesIn ws) 0 || (ltb 1024 (nodesIn ws) || (not (eqb (length ws) (4 * nodesIn ws)) || not (eqb (length xs) (27 * nodesIn ws))))
+    eqb (nodesIn ws) 0 || (ltb 1024 (nodesIn ws) || (not (eqb (length ws) (4 * nodesIn ws)) || not (eqb (length xs) (28 * nodesIn ws))))
 
 unfoldable pub badRows : List ℕ → List Float → List ℕ → Bool
 badRows ws rs ms = not (eqb (length rs) (16 * nodesIn ws)) || not (eqb (length ms) (2 * nodesIn ws))
@@ -84,9 +84,13 @@ badWord w = not (eqb (distributionAt w) 0) && (ltb 4 (distributionAt w) || not (
 unfoldable pub badSafety : ℕ → Bool
 badSafety w = flagAt w 17 && ltb (codeAt w 5) 2
 
--- 3: from bit 13 on: the word, the safety, bits 16 and 18 on unused
+-- 3: bit 16, a baseline, on a non-leaf
+unfoldable pub badBaseline : ℕ → Bool
+badBaseline w = flagAt w 16 && not (eqb (codeAt w 0) 1)
+
+-- 3: from bit 13 on: the word, the baseline, the safety; bits 18 on unused
 unfoldable pub badAlign : ℕ → Bool
-badAlign w = not (clearFrom w 18) || (flagAt w 16 || (badWord w || badSafety w))
+badAlign w = not (clearFrom w 18) || (badBaseline w || (badWord w || badSafety w))
 
 -- 3: unknown code, unused bit set, forbidden unit, root not a block
 unfoldable pub badCodes : List ℕ → ℕ → Bool
@@ -142,14 +146,15 @@ badPixels x = not (inRange x zeroF mostPixels)
 unfoldable pub badRatio : Float → Bool
 badRatio x = not (eq x zeroF) && not (inRange x leastRatio mostRatio)
 
--- 4: node number NaN, infinite or out of range; 24 not above 25
+-- 4: node number NaN, infinite or out of range; 24 not above 25; a baseline from 0 to number 26
 unfoldable pub badNumbers : List ℕ → List Float → ℕ → Bool
 badNumbers ws xs i =
     some (λ f. badField f (unitOf (wordAt ws i 2) (wordAt ws i 3) f) (numberAt xs i f)) 22
     || (badRatio (numberAt xs i 22)
     || (badPixels (numberAt xs i 23)
     || (badPixels (numberAt xs i 24)
-    || (badPixels (numberAt xs i 25) || (badPixels (numberAt xs i 26) || lt (numberAt xs i 25) (numberAt xs i 24))))))
+    || (badPixels (numberAt xs i 25)
+    || (badPixels (numberAt xs i 26) || (lt (numberAt xs i 25) (numberAt xs i 24) || not (inRange (numberAt xs i 27) zeroF (numberAt xs i 26))))))))
 
 -- 4: else a question number so
 unfoldable pub badOption : OptionF32 → Bool
@@ -167,9 +172,9 @@ recordsIn cw cx = min (length cw / 2) (length cx / 3)
 unfoldable pub badEdit : List ℕ → ℕ → ℕ → Bool
 badEdit es n k = not (ltb (getD es k 0) n)
 
--- 8: a row number 0-14 of magnitude 16,777,216 or more, or NaN
+-- 8: a row number of magnitude 16,777,216 or more, or NaN
 unfoldable pub badRow : List Float → ℕ → Bool
-badRow rs i = some (λ k. tooLarge (getD rs (16 * i + k) zeroF)) 15
+badRow rs i = some (λ k. tooLarge (getD rs (16 * i + k) zeroF)) 16
 
 -- a node at fault refuses
 unfoldable pub atFault : (ℕ → Answer) → Found → Tested

@@ -9,6 +9,7 @@ use Rattle.geometry.specs.Geometry.{zeroF}
 use Rattle.geometry.specs.declared.Point.{Point}
 use Rattle.geometry.specs.declared.Size.{Size}
 use Rattle.util.specs.Maybe.{orZero, isSome}
+use Rattle.util.specs.declared.OptionF32.the-variants.{None, Some}
 use Rattle.length.specs.Available.{definite}
 use Rattle.length.specs.declared.AvailableSpace.{AvailableSpace}
 use Rattle.length.specs.declared.AvailableSpace.the-variants.{Definite, MinContent, MaxContent}
@@ -19,11 +20,12 @@ use Rattle.steps.specs.declared.LayoutInput.{LayoutInput}
 use Rattle.steps.specs.declared.LayoutOutput.{LayoutOutput}
 use Rattle.steps.specs.declared.ProbeInput.{ProbeInput}
 
--- numbers 2-7: the size, the top set, the bottom set
+-- numbers 2-7 and 15: the size, the top set, the bottom set, the first baseline
 pub record RowAnswer : Type 0 where
   pub size : Size
   pub top : CollapsibleMarginSet
   pub bottom : CollapsibleMarginSet
+  pub baseline : Float
 
 -- numbers 8-10 and 14: known width, known height, parent width and height basis as asked
 pub record RowAsked : Type 0 where
@@ -38,13 +40,12 @@ pub record RowProbe : Type 0 where
   pub height : Float
   pub answer : Float
 
--- numbers 0-1 are the place, number 15 is spare
+-- numbers 0-1 are the place
 pub record Row : Type 0 where
   pub place : Point
   pub answer : RowAnswer
   pub asked : RowAsked
   pub probe : RowProbe
-  pub spare : Float
   pub order : ℕ
   pub bits : ℕ
 
@@ -66,7 +67,7 @@ rowNumbers r =
     ∷ r .probe .height
     ∷ r .probe .answer
     ∷ r .asked .basis
-    ∷ r .spare
+    ∷ r .answer .baseline
     ∷ []
 
 abbrev pub rowWords : Row → List ℕ
@@ -82,6 +83,7 @@ rowAt rs ms i =
             size = record { width = getD rs (16 * i + 2) zeroF; height = getD rs (16 * i + 3) zeroF };
             top = record { positive = getD rs (16 * i + 4) zeroF; negative = getD rs (16 * i + 5) zeroF };
             bottom = record { positive = getD rs (16 * i + 6) zeroF; negative = getD rs (16 * i + 7) zeroF };
+            baseline = getD rs (16 * i + 15) zeroF;
           };
       asked =
           record {
@@ -91,12 +93,11 @@ rowAt rs ms i =
             basis = getD rs (16 * i + 14) zeroF;
           };
       probe = record { width = getD rs (16 * i + 11) zeroF; height = getD rs (16 * i + 12) zeroF; answer = getD rs (16 * i + 13) zeroF };
-      spare = getD rs (16 * i + 15) zeroF;
       order = getD ms (2 * i) 0;
       bits = getD ms (2 * i + 1) 0;
     }
 
--- bits: 0 laid, 1 through, 2 out of flow, 3 known height given, 4 probed, 5-6 available kind, 7 probe height given, 8 height basis given
+-- bits: 0 laid, 1 through, 2 out of flow, 3 known height given, 4 probed, 5-6 available kind, 7 probe height given, 8 height basis given, 9 baseline given
 unfoldable pub isLaid : Row → Bool
 isLaid r = flagAt (r .bits) 0
 
@@ -139,17 +140,16 @@ withCode b code = b % 16 + 16 * code + 256 * (b / 256)
 
 -- a row with other probe words and bits
 unfoldable pub noted : Row → ProbeWords → ℕ → Row
-noted r p bits = record { place = r .place; answer = r .answer; asked = r .asked; probe = p .numbers; spare = r .spare; order = r .order; bits = bits }
+noted r p bits = record { place = r .place; answer = r .answer; asked = r .asked; probe = p .numbers; order = r .order; bits = bits }
 
 -- a row that is zero but for place, width, order and bits
 unfoldable pub bare : Point → Float → ℕ → ℕ → Row
 bare place width order bits =
     record {
       place = place;
-      answer = record { size = record { width = width; height = zeroF }; top = noMargins; bottom = noMargins };
+      answer = record { size = record { width = width; height = zeroF }; top = noMargins; bottom = noMargins; baseline = zeroF };
       asked = record { width = zeroF; height = zeroF; parent = zeroF; basis = zeroF };
       probe = record { width = zeroF; height = zeroF; answer = zeroF };
-      spare = zeroF;
       order = order;
       bits = bits;
     }
@@ -174,7 +174,7 @@ unfoldable pub laidRow : LayoutInput → LayoutOutput → ProbeWords → Row
 laidRow q o p =
     record {
       place = origin;
-      answer = record { size = o .size; top = o .top; bottom = o .bottom };
+      answer = record { size = o .size; top = o .top; bottom = o .bottom; baseline = orZero (o .baseline) };
       asked =
           record {
             width = orZero (q .known .width);
@@ -183,18 +183,24 @@ laidRow q o p =
             basis = orZero (q .basis);
           };
       probe = p .numbers;
-      spare = zeroF;
       order = 0;
-      bits = 1 + 2 * bit (o .through) + 8 * bit (isSome (q .known .height)) + 16 * p .code + 256 * bit (isSome (q .basis));
+      bits = 1 + 2 * bit (o .through) + 8 * bit (isSome (q .known .height)) + 16 * p .code + 256 * bit (isSome (q .basis)) + 512 * bit (isSome (o .baseline));
     }
 
 -- the answer that a laid row holds
 unfoldable pub outputIn : Row → LayoutOutput
-outputIn r = record { size = r .answer .size; top = r .answer .top; bottom = r .answer .bottom; through = flagAt (r .bits) 1 }
+outputIn r =
+    record {
+      size = r .answer .size;
+      top = r .answer .top;
+      bottom = r .answer .bottom;
+      through = flagAt (r .bits) 1;
+      baseline = cond (flagAt (r .bits) 9) (Some (r .answer .baseline)) None;
+    }
 
 -- a row put at its place among its siblings
 unfoldable pub putAt : Point → ℕ → Row → Row
-putAt p order r = record { place = p; answer = r .answer; asked = r .asked; probe = r .probe; spare = r .spare; order = order; bits = r .bits }
+putAt p order r = record { place = p; answer = r .answer; asked = r .asked; probe = r .probe; order = order; bits = r .bits }
 
 -- M: the shift on a place y or a line; rows that are neither laid nor out of flow stay
 unfoldable pub lowered : Float → Row → Row
@@ -204,7 +210,6 @@ lowered d r =
       answer = r .answer;
       asked = r .asked;
       probe = r .probe;
-      spare = r .spare;
       order = r .order;
       bits = r .bits;
     }

@@ -2,7 +2,7 @@
 --   margins and side offsets against inner width, heights' numbers against the frame's basis    innerWidth, itemOf, relativeOffset
 --   known sizes clamped, larger with padding+border; parent inner  askedWidth, askedHeight, childInput; the question: questionTo
 --   T and B; gap; free; place x and y                              topMargins, bottomMargins, gapOf, freeOf, shareOf; placeOf
---   through, or else: strut, top set, y                            pastThrough, pastBox; the next cursor: stepped
+--   through, or else: strut, top set, y; the first baseline         pastThrough, pastBox; the next cursor: stepped
 --   an out-of-flow child's line, start and end                     lineOf, edgesOf; pastAside, pastHidden
 -- J, whole: layF (Layout), from startOf on, with place, aside and skip for the three kinds of children.
 use mathlib.Core.Bool.{Bool, true, false, cond, not, _&&_}
@@ -27,6 +27,7 @@ use Rattle.margin.specs.Margin.{noMargins, joined, joinedWith, sumOf}
 use Rattle.margin.specs.declared.CollapsibleMarginSet.{CollapsibleMarginSet}
 use Rattle.alignment.specs.Align.{twoF}
 use Rattle.steps.specs.Sizing.{sizingOf}
+use Rattle.steps.specs.Baseline.{baselinePast}
 use Rattle.steps.specs.Context.{plainBlock}
 use Rattle.steps.specs.declared.LayoutInput.{LayoutInput}
 use Rattle.steps.specs.declared.LayoutOutput.{LayoutOutput}
@@ -40,7 +41,7 @@ innerWidth f = f .width ⊖ across (f .inset)
 
 -- y is the top inset; the sets are empty, nothing is stacked yet
 unfoldable pub startOf : Frame → Cursor
-startOf f = record { y = f .inset .top; strut = noMargins; top = noMargins; first = true; allThrough = true; shown = record { 0 = 0 }; count = 0 }
+startOf f = record { y = f .inset .top; strut = noMargins; top = noMargins; first = true; allThrough = true; baseline = None; shown = record { 0 = 0 }; count = 0 }
 
 unfoldable pub negOpt : OptionF32 → OptionF32
 negOpt None = None
@@ -141,34 +142,37 @@ unfoldable pub placeOf : Frame → Cursor → BlockItem → LayoutOutput → Poi
 placeOf f c i o = record { x = placeX f i (o .size .width); y = placeY f c i o }
 
 -- through: strut takes T and B, and so does the top set if at the top
-unfoldable pub pastThrough : Cursor → CollapsibleMarginSet → CollapsibleMarginSet → Cursor
-pastThrough c t b =
+unfoldable pub pastThrough : Cursor → CollapsibleMarginSet → CollapsibleMarginSet → OptionF32 → Cursor
+pastThrough c t b baseline =
     record {
       y = c .y;
       strut = joined (joined (c .strut) t) b;
       top = cond (c .first) (joined (joined (c .top) t) b) (c .top);
       first = c .first;
       allThrough = c .allThrough;
+      baseline = baseline;
       shown = record { 0 = c .shown .0 + 1 };
       count = c .count + 1;
     }
 
 -- else: the top set takes T if at the top, y = (y+gap)+h, strut = B, no longer at the top
-unfoldable pub pastBox : Frame → Cursor → CollapsibleMarginSet → CollapsibleMarginSet → Float → Cursor
-pastBox f c t b h =
+unfoldable pub pastBox : Frame → Cursor → CollapsibleMarginSet → CollapsibleMarginSet → Float → OptionF32 → Cursor
+pastBox f c t b h baseline =
     record {
       y = (c .y ⊕ gapOf f c t) ⊕ h;
       strut = b;
       top = cond (c .first) (joined (c .top) t) (c .top);
       first = false;
       allThrough = false;
+      baseline = baseline;
       shown = record { 0 = c .shown .0 + 1 };
       count = c .count + 1;
     }
 
 unfoldable pub stepped : Frame → Cursor → BlockItem → LayoutOutput → Cursor
 stepped f c i o =
-    cond (o .through) (pastThrough c (topMargins i o) (bottomMargins i o)) (pastBox f c (topMargins i o) (bottomMargins i o) (o .size .height))
+    let baseline = baselinePast (c .baseline) (placeY f c i o) (o .baseline) in
+    cond (o .through) (pastThrough c (topMargins i o) (bottomMargins i o) baseline) (pastBox f c (topMargins i o) (bottomMargins i o) (o .size .height) baseline)
 
 -- out-of-flow line: y + strut's sum (0 instead while at the top with own start)
 unfoldable pub lineOf : Frame → Cursor → Float
@@ -181,10 +185,10 @@ edgesOf f = record { start = f .inset .left; end = f .width ⊖ f .inset .right 
 -- past an out-of-flow child, which counts as shown, and past a hidden one, which does not
 unfoldable pub pastAside : Cursor → Cursor
 pastAside c =
-    record { y = c .y; strut = c .strut; top = c .top; first = c .first; allThrough = c .allThrough; shown = record { 0 = c .shown .0 + 1 }; count = c .count + 1 }
+    record { y = c .y; strut = c .strut; top = c .top; first = c .first; allThrough = c .allThrough; baseline = c .baseline; shown = record { 0 = c .shown .0 + 1 }; count = c .count + 1 }
 
 unfoldable pub pastHidden : Cursor → Cursor
-pastHidden c = record { y = c .y; strut = c .strut; top = c .top; first = c .first; allThrough = c .allThrough; shown = c .shown; count = c .count + 1 }
+pastHidden c = record { y = c .y; strut = c .strut; top = c .top; first = c .first; allThrough = c .allThrough; baseline = c .baseline; shown = c .shown; count = c .count + 1 }
 
 -- the counts of a cursor have room for one more
 pub record Counts (c : Cursor) : Type 0 where

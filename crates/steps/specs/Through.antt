@@ -2,13 +2,14 @@
 --   below the root, in-flow block without new context, open        openBox, hollowBox
 --   height 0, every shown child through or out of flow             whole: stepN
 --   sets not passed out hold the own margin alone                  passedOut
---   a container's answer, and its shift                            outputOf; K to N, whole: finished
+--   a container's answer, with its baseline, and its shift                            outputOf; K to N, whole: finished
 --   a leaf takes known sizes, else its table                       leafOutput
 use mathlib.Core.Bool.{Bool, false, cond, not, _&&_}
 use lib.Ieee.{Float, lt, eq}
 use Rattle.geometry.specs.Geometry.{zeroF}
 use Rattle.geometry.specs.declared.Rect.{Rect}
 use Rattle.util.specs.Maybe.{unwrapOr}
+use Rattle.util.specs.declared.OptionF32.{OptionF32}
 use Rattle.length.specs.Length.{resolvedOrZero}
 use Rattle.style.specs.declared.Measure.{Measure}
 use Rattle.style.specs.declared.Style.{Style}
@@ -16,6 +17,7 @@ use Rattle.margin.specs.Margin.{noMargins, setOf}
 use Rattle.margin.specs.declared.CollapsibleMarginSet.{CollapsibleMarginSet}
 use Rattle.steps.specs.Context.{plainBlock}
 use Rattle.steps.specs.Width.{leafWidth}
+use Rattle.steps.specs.Baseline.{blockBaseline}
 use Rattle.steps.specs.Height.{stepK, stepL, stepM, stillOwnEnd}
 use Rattle.steps.specs.declared.LayoutInput.{LayoutInput}
 use Rattle.steps.specs.declared.LayoutOutput.{LayoutOutput}
@@ -39,13 +41,14 @@ stepN f c height = f .hollow && (eq height zeroF && c .allThrough)
 unfoldable pub passedOut : Bool → CollapsibleMarginSet → Float → CollapsibleMarginSet
 passedOut passed set own = cond passed set (setOf own)
 
-unfoldable pub outputOf : Style → LayoutInput → Frame → Cursor → Float → LayoutOutput
-outputOf s q f c height =
+unfoldable pub outputOf : Style → LayoutInput → Frame → Cursor → Float → OptionF32 → LayoutOutput
+outputOf s q f c height shift =
     record {
       size = record { width = f .width; height = height };
       top = passedOut (f .ownStart) (c .top) (resolvedOrZero (s .margin .top) (q .parent));
       bottom = passedOut (stillOwnEnd f height) (c .strut) (resolvedOrZero (s .margin .bottom) (q .parent));
       through = stepN f c height;
+      baseline = blockBaseline s (c .baseline) shift;
     }
 
 -- K to N of a container whose children are stacked
@@ -53,9 +56,10 @@ unfoldable pub finished : Style → LayoutInput → Frame → Cursor → Finishe
 finished s q f c =
     let content = stepK f c in
     let height = stepL f content in
-    record { output = outputOf s q f c height; shift = stepM s f height content }
+    let shift = stepM s f height content in
+    record { output = outputOf s q f c height shift; shift = shift }
 
--- a leaf takes known sizes, else its table; empty sets, never through
+-- a leaf takes known sizes, else its table; empty sets, never through; its baseline as it is
 unfoldable pub leafOutput : Measure → LayoutInput → LayoutOutput
 leafOutput m q =
     record {
@@ -63,4 +67,5 @@ leafOutput m q =
       top = noMargins;
       bottom = noMargins;
       through = false;
+      baseline = m .baseline;
     }

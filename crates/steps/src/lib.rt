@@ -34,12 +34,13 @@ pub struct LayoutInput {
     pub nested: bool,
 }
 
-// Its answer.
+// Its answer. `baseline` is the first one at or below the box, measured from its top.
 pub struct LayoutOutput {
     pub size: Size,
     pub top: CollapsibleMarginSet,
     pub bottom: CollapsibleMarginSet,
     pub through: bool,
+    pub baseline: OptionF32,
 }
 
 // A probe: width only, no width known, no parent width.
@@ -89,13 +90,14 @@ pub struct BlockItem {
     pub offset: Point,
 }
 
-// Where the stack stands: y, the strut, the top set, still at the top, all shown children through so far, and two counts of siblings.
+// Where the stack stands: y, the strut, the top set, still at the top, all shown children through so far, the first baseline, and two counts of siblings.
 pub struct Cursor {
     pub y: f32,
     pub strut: CollapsibleMarginSet,
     pub top: CollapsibleMarginSet,
     pub first: bool,
     pub allThrough: bool,
+    pub baseline: OptionF32,
     pub shown: Order,
     pub count: u32,
 }

@@ -1,5 +1,5 @@
 -- Style and unit words as codes of one or two bits.
-use mathlib.Core.Bool.{Bool, cond}
+use mathlib.Core.Bool.{Bool, cond, not, _&&_}
 use Prim.Native.Nat.{ℕ, zero, suc, _+_, _*_, _-_, _/_, _%_, _^_}
 use lib.Dec.{eqb, ltb}
 use lib.Ieee.{Float, eq}
@@ -82,3 +82,7 @@ lengthOf k x = pick4 k Auto (Pixels x) (Fraction x) Auto
 -- 0 for none
 unfoldable pub ratioOf : Float → OptionF32
 ratioOf x = cond (eq x zeroF) None (Some x)
+
+-- a leaf's baseline: the number, if bit 16 is set; containment suppresses it
+unfoldable pub baselineOf : ℕ → Float → OptionF32
+baselineOf w x = cond (flagAt w 16 && not (flagAt w 12)) (Some x) None

@@ -1,4 +1,4 @@
--- Where a number stands: within the 27 planes, and which node's it is. Assumes nothing.
+-- Where a number stands: within the 28 planes, and which node's it is. Assumes nothing.
 use mathlib.Core.Path.{_≡_}
 use mathlib.Core.List.{List, []}
 use Prim.Native.Nat.{ℕ, _*_, _%_, _<_, _≤_, zero-le}
@@ -9,7 +9,7 @@ use borrow.Author.Tests.{lt-ltb, le-ltb}
 use Rattle.geometry.specs.Geometry.{zeroF}
 use Rattle.style.specs.Style.{planeOf, numberPlace, numberAt}
 
-pub place-within : {n i f : ℕ} → i < n → f < 27 → numberPlace n i f < 27 * n
+pub place-within : {n i f : ℕ} → i < n → f < 28 → numberPlace n i f < 28 * n
 place-within h g = digits-lt g h
 
 -- the node of a place

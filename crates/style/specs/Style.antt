@@ -1,4 +1,4 @@
--- A node's style, from its four words and 27 numbers.
+-- A node's style, from its four words and 28 numbers.
 use Prim.Native.Nat.{ℕ, _+_, _*_, _/_}
 use mathlib.Core.Bool.{cond}
 use mathlib.Core.List.{List}
@@ -9,7 +9,7 @@ use Rattle.geometry.specs.Geometry.{zeroF}
 use Rattle.length.specs.declared.Length.{Length}
 use Rattle.length.specs.declared.LengthRect.{LengthRect}
 use Rattle.length.specs.declared.LengthSize.{LengthSize}
-use Rattle.style.specs.Codes.{codeAt, flagAt, kindOf, positionOf, overflowXY, alignAt, unitOf, lengthOf, ratioOf}
+use Rattle.style.specs.Codes.{codeAt, flagAt, kindOf, positionOf, overflowXY, alignAt, unitOf, lengthOf, ratioOf, baselineOf}
 use Rattle.style.specs.declared.Measure.{Measure}
 use Rattle.style.specs.declared.Style.{Style}
 
@@ -17,11 +17,11 @@ use Rattle.style.specs.declared.Style.{Style}
 unfoldable pub wordAt : List ℕ → ℕ → ℕ → ℕ
 wordAt ws i k = getD ws (i * 4 + k) 0
 
--- Numbers stand field by field: 27 planes, each with one number of every node.
+-- Numbers stand field by field: 28 planes, each with one number of every node.
 
 -- how long a plane is
 abbrev pub planeOf : List Float → ℕ
-planeOf xs = length xs / 27
+planeOf xs = length xs / 28
 
 -- the place of number f of node i, in planes of n
 abbrev pub numberPlace : ℕ → ℕ → ℕ → ℕ
@@ -51,10 +51,12 @@ rectAt ws i xs j f =
       left = lengthAt ws i xs j (f + 3);
     }
 
-unfoldable pub measureAt : List Float → ℕ → Measure
-measureAt xs j = record { least = numberAt xs j 24; most = numberAt xs j 25; height = numberAt xs j 26 }
+-- a leaf's table
+unfoldable pub measureAt : List ℕ → ℕ → List Float → ℕ → Measure
+measureAt ws i xs j =
+    record { least = numberAt xs j 24; most = numberAt xs j 25; height = numberAt xs j 26; baseline = baselineOf (wordAt ws i 1) (numberAt xs j 27) }
 
--- style bits: 0-1 kind, 2 content-box, 3 RTL, 4-5 position, 6-9 overflow, 10-11 and 13-15 align-content, 12 contained, 17 safe
+-- style bits: 0-1 kind, 2 content-box, 3 RTL, 4-5 position, 6-9 overflow, 10-11 and 13-15 align-content, 12 contained, 16 a leaf's baseline, 17 safe
 unfoldable pub styleAt : List ℕ → ℕ → List Float → ℕ → Style
 styleAt ws i xs j =
     record {
@@ -75,5 +77,5 @@ styleAt ws i xs j =
       inset = rectAt ws i xs j 18;
       ratio = ratioOf (numberAt xs j 22);
       scrollbar = numberAt xs j 23;
-      measure = measureAt xs j;
+      measure = measureAt ws i xs j;
     }

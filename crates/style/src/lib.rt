@@ -1,7 +1,7 @@
 // A node's style out of its words and numbers (the crate's src/style/*.rs).
 ghost use mathlib.Core.Path.{_≡_};
 ghost use Prim.Native.Nat.{_+_, _^_, _<_, _≤_};
-ghost use Rattle.style.specs.Codes.{codeAt, flagAt, clearFrom, kindOf, positionOf, overflowOf, distributionAt, alignOf, distributed, alignAt, overflowXY, unitOf, lengthOf, ratioOf};
+ghost use Rattle.style.specs.Codes.{codeAt, flagAt, clearFrom, kindOf, positionOf, overflowOf, distributionAt, alignOf, distributed, alignAt, overflowXY, unitOf, lengthOf, ratioOf, baselineOf};
 ghost use Rattle.style.specs.Flow.{positioned, flowBy, flowAt, flowOf, isLeaf};
 ghost use Rattle.style.specs.Style.{wordAt, planeOf, numberPlace, numberAt, measureAt, styleAt};
 ghost use Rattle.style.specs.Fields.{sizeIn, rectIn};
@@ -52,11 +52,12 @@ pub struct OverflowXY {
     pub y: Overflow,
 }
 
-// A leaf's table: its widths under min-content and max-content, and its height.
+// A leaf's table: its widths under min-content and max-content, its height, and the first baseline that it shows.
 pub struct Measure {
     pub least: f32,
     pub most: f32,
     pub height: f32,
+    pub baseline: OptionF32,
 }
 
 pub struct Style {
@@ -220,7 +221,7 @@ pub fn number_place(n: usize, i: usize, f: usize) -> usize
 
 // Number f of node i in planes of n, and 0 past the last node.
 pub fn number_in(numbers: &[f32], n: usize, i: usize, f: usize) -> f32
-    requires { ⌜ (n ≡ planeOf (now numbers)) × (f < 27) ⌝ }
+    requires { ⌜ (n ≡ planeOf (now numbers)) × (f < 28) ⌝ }
     ensures { λ r. ⌜ r ≡ numberAt (now (numbers .entry)) i f ⌝ }
 {
     if i < n {
@@ -232,10 +233,10 @@ pub fn number_in(numbers: &[f32], n: usize, i: usize, f: usize) -> f32
 
 // Number f of node i, and 0 past the last node.
 pub fn number(numbers: &[f32], i: usize, f: usize) -> f32
-    requires { ⌜ f < 27 ⌝ }
+    requires { ⌜ f < 28 ⌝ }
     ensures { λ r. ⌜ r ≡ numberAt (now (numbers .entry)) i f ⌝ }
 {
-    number_in(numbers, numbers.len() / 27, i, f)
+    number_in(numbers, numbers.len() / 28, i, f)
 }
 
 // Two lengths of node j, whose units stand from k on in one unit word: a shift and a mask for each.
@@ -290,15 +291,37 @@ fn overflow_of(w: u32) -> OverflowXY
     }
 }
 
-fn measure_at(numbers: &[f32], n: usize, j: usize) -> Measure
-    requires { ⌜ n ≡ planeOf (now numbers) ⌝ }
-    ensures { λ r. ⌜ r ≡ measureAt (now (numbers .entry)) j ⌝ }
+// What a leaf shows as its baseline: number 27, unless it has none or is contained.
+fn baseline_of(w: u32, x: f32) -> OptionF32
+    ensures { λ r. ⌜ r ≡ baselineOf w x ⌝ }
 {
+    if flag(w, 16) {
+        if !flag(w, 12) {
+            return OptionF32::Some(x);
+        }
+    }
+    OptionF32::None
+}
+
+// The table of the node at i of the words and at j of the numbers, in planes of n.
+fn measure_in(words: &[u32], i: usize, numbers: &[f32], n: usize, j: usize) -> Measure
+    requires { ⌜ n ≡ planeOf (now numbers) ⌝ }
+    ensures { λ r. ⌜ r ≡ measureAt (now (words .entry)) i (now (numbers .entry)) j ⌝ }
+{
+    let w = word(words, i, 1);
     Measure {
         least: number_in(numbers, n, j, 24),
         most: number_in(numbers, n, j, 25),
         height: number_in(numbers, n, j, 26),
+        baseline: baseline_of(w, number_in(numbers, n, j, 27)),
     }
+}
+
+// A leaf's table alone.
+pub fn measure_at(words: &[u32], i: usize, numbers: &[f32], j: usize) -> Measure
+    ensures { λ r. ⌜ r ≡ measureAt (now (words .entry)) i (now (numbers .entry)) j ⌝ }
+{
+    measure_in(words, i, numbers, numbers.len() / 28, j)
 }
 
 // The style of the node at i of the words and at j of the numbers.
@@ -308,7 +331,7 @@ pub fn style_at(words: &[u32], i: usize, numbers: &[f32], j: usize) -> Style
     let w = word(words, i, 1);
     let u = word(words, i, 2);
     let v = word(words, i, 3);
-    let n = numbers.len() / 27;
+    let n = numbers.len() / 28;
     Style {
         kind: kind_of(w),
         content: flag(w, 2),
@@ -327,7 +350,7 @@ pub fn style_at(words: &[u32], i: usize, numbers: &[f32], j: usize) -> Style
         inset: rect_in(v, 4, numbers, n, j, 18),
         ratio: ratio_from(number_in(numbers, n, j, 22)),
         scrollbar: number_in(numbers, n, j, 23),
-        measure: measure_at(numbers, n, j),
+        measure: measure_in(words, i, numbers, n, j),
     }
 }
 

@@ -50,7 +50,7 @@ pub record Sized (ws : List ℕ) (xs : List Float) : Type 0 where
   pub some : 0 < nodesIn ws
   pub few : nodesIn ws ≤ 1024
   pub words : length ws ≡ 4 * nodesIn ws
-  pub numbers : length xs ≡ 27 * nodesIn ws
+  pub numbers : length xs ≡ 28 * nodesIn ws
 
 pub sized : (ws : List ℕ) (xs : List Float) → badTables ws xs ≡ false → Sized ws xs
 unfolding badTables

@@ -4,7 +4,7 @@ ghost use Prim.Native.Nat.{_≤_};
 ghost use Rattle.style.specs.Codes.{unitOf};
 ghost use Rattle.steps.specs.Scan.{lowest, some};
 ghost use Rattle.steps.specs.Page.{nodesIn};
-ghost use Rattle.steps.specs.Noes.{badUnit, badWord, badSafety, badAlign, badCodes, ratioBesideFraction, badStyle};
+ghost use Rattle.steps.specs.Noes.{badUnit, badWord, badSafety, badBaseline, badAlign, badCodes, ratioBesideFraction, badStyle};
 use steps::Found;
 use style::clear_from;
 use style::code;
@@ -54,6 +54,13 @@ fn bad_safety(w: u32) -> bool
     if flag(w, 17) { code(w, 5) < 2 } else { false }
 }
 
+// 3: a baseline on a non-leaf.
+fn bad_baseline(w: u32) -> bool
+    ensures { λ r. ⌜ r ≡ badBaseline w ⌝ }
+{
+    if flag(w, 16) { code(w, 0) != 1 } else { false }
+}
+
 // 3: the style word from bit 13 on.
 fn bad_align(w: u32) -> bool
     ensures { λ r. ⌜ r ≡ badAlign w ⌝ }
@@ -61,7 +68,7 @@ fn bad_align(w: u32) -> bool
     if !clear_from(w, 18) {
         return true;
     }
-    if flag(w, 16) {
+    if bad_baseline(w) {
         return true;
     }
     if bad_word(w) {

@@ -28,7 +28,7 @@ use style::flag;
 use style::word;
 use tree::NodeId;
 
-// 1: no node, over 1,024, or not 4 words and 27 numbers for each.
+// 1: no node, over 1,024, or not 4 words and 28 numbers for each.
 fn bad_tables(words: &[u32], numbers: &[f32]) -> bool
     ensures { λ r. ⌜ r ≡ badTables (now (words .entry)) (now (numbers .entry)) ⌝ }
 {
@@ -42,7 +42,7 @@ fn bad_tables(words: &[u32], numbers: &[f32]) -> bool
     if words.len() != 4 * n {
         return true;
     }
-    numbers.len() != 27 * n
+    numbers.len() != 28 * n
 }
 
 // 1: not 16 row numbers and 2 row words for each node.

@@ -113,10 +113,14 @@ fn bad_numbers(words: &[u32], numbers: &[f32], n: usize, i: usize) -> bool
     if bad_pixels(most) {
         return true;
     }
-    if bad_pixels(number_in(numbers, n, i, 26)) {
+    let height = number_in(numbers, n, i, 26);
+    if bad_pixels(height) {
         return true;
     }
-    most < least
+    if most < least {
+        return true;
+    }
+    !in_range(number_in(numbers, n, i, 27), 0.0, height)
 }
 
 // 4: the lowest node at fault.
@@ -125,7 +129,7 @@ pub(crate) fn first_bad_numbers(words: &[u32], numbers: &[f32]) -> Found
     ensures { λ r. ⌜ r ≡ lowest (badNumbers (now (words .entry)) (now (numbers .entry))) (nodesIn (now (words .entry))) ⌝ }
 {
     let n = words.len() / 4;
-    let plane = numbers.len() / 27;
+    let plane = numbers.len() / 28;
     let mut i = 0;
     while i < n {
         if bad_numbers(words, numbers, plane, i) {

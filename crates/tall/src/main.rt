@@ -84,7 +84,7 @@ fn show(a: Answer, height: f32) {
 
 fn main() {
     let mut words = [0u32; 1028];
-    let mut numbers = [0.0f32; 6939];
+    let mut numbers = [0.0f32; 7196];
     let mut rows = [0.0f32; 4112];
     let mut marks = [0u32; 514];
     let mut pairs = [0u32; 2];

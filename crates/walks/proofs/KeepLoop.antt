@@ -103,7 +103,7 @@ module _ (ws : List ℕ) (xs rs : List Float) (ms es : List ℕ) (b : ℕ) (ts :
       let em : ms ≡ p ++ (rowWords (l .old) ++ (flatF oldWords ks ++ flatF oldWords us)) =
       h .marks-split ∙ ap (λ (z : List ℕ). p ++ z) (flatF-more oldWords t us ∙ ap (λ (z : List ℕ). z ++ flatF oldWords us) (flatT-node oldWords l ks)) in
       let r = l .old in
-      let tail0 = r .answer .size .width ∷ r .answer .size .height ∷ r .answer .top .positive ∷ r .answer .top .negative ∷ r .answer .bottom .positive ∷ r .answer .bottom .negative ∷ r .asked .width ∷ r .asked .height ∷ r .asked .parent ∷ r .probe .width ∷ r .probe .height ∷ r .probe .answer ∷ r .asked .basis ∷ r .spare ∷ (flatF oldNumbers ks ++ flatF oldNumbers us) in
+      let tail0 = r .answer .size .width ∷ r .answer .size .height ∷ r .answer .top .positive ∷ r .answer .top .negative ∷ r .answer .bottom .positive ∷ r .answer .bottom .negative ∷ r .asked .width ∷ r .asked .height ∷ r .asked .parent ∷ r .probe .width ∷ r .probe .height ∷ r .probe .answer ∷ r .asked .basis ∷ r .answer .baseline ∷ (flatF oldNumbers ks ++ flatF oldNumbers us) in
       let g0 : getD rs (16 * i) nan ≡ r .place .x = ap (λ (z : List Float). getD z (16 * i) nan) er ∙ getD-in q [] (r .place .x) (r .place .y ∷ tail0) nan (16 * i) (omega arith) in
       let g1 : getD rs (16 * i + 1) nan ≡ r .place .y = ap (λ (z : List Float). getD z (16 * i + 1) nan) er ∙ getD-in q (r .place .x ∷ []) (r .place .y) tail0 nan (16 * i + 1) (ap (λ (k : ℕ). k + 1) ql) in
       let g2 : getD rs (16 * i + 2) nan ≡ r .answer .size .width = ap (λ (z : List Float). getD z (16 * i + 2) nan) er ∙ getD-in q (r .place .x ∷ r .place .y ∷ []) (r .answer .size .width) (drop 1 tail0) nan (16 * i + 2) (ap (λ (k : ℕ). k + 2) ql) in

@@ -60,7 +60,7 @@ pub record Turn (ws : List ℕ) (rs : List Float) (ms : List ℕ) (d : Float) (t
 lowered-row : (d : Float) (r : Row) (q z : List Float) (n : ℕ) (v : Float) → length q ≡ n → v ≡ loweredY (getD (q ++ (rowNumbers r ++ z)) (n + 1) nan) (r .bits) d → set (q ++ (rowNumbers r ++ z)) (n + 1) v ≡ q ++ (rowNumbers (lowered d r) ++ z)
 unfolding lowered loweredY isLaid isOut
 lowered-row d r q z n v e ev =
-    let a = r .answer .size .width ∷ r .answer .size .height ∷ r .answer .top .positive ∷ r .answer .top .negative ∷ r .answer .bottom .positive ∷ r .answer .bottom .negative ∷ r .asked .width ∷ r .asked .height ∷ r .asked .parent ∷ r .probe .width ∷ r .probe .height ∷ r .probe .answer ∷ r .asked .basis ∷ r .spare ∷ z in
+    let a = r .answer .size .width ∷ r .answer .size .height ∷ r .answer .top .positive ∷ r .answer .top .negative ∷ r .answer .bottom .positive ∷ r .answer .bottom .negative ∷ r .asked .width ∷ r .asked .height ∷ r .asked .parent ∷ r .probe .width ∷ r .probe .height ∷ r .probe .answer ∷ r .asked .basis ∷ r .answer .baseline ∷ z in
     let i : length q + length (r .place .x ∷ []) ≡ n + 1 = ap (λ (k : ℕ). k + 1) e in
     let g : getD (q ++ (rowNumbers r ++ z)) (n + 1) nan ≡ r .place .y = getD-in q (r .place .x ∷ []) (r .place .y) a nan (n + 1) i in
     rw (set-in q (r .place .x ∷ []) (r .place .y) a v (n + 1) i, ev, g)

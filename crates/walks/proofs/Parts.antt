@@ -11,7 +11,7 @@ use lib.ListN.{length, getD, take, drop, length-append, length-take, length-drop
 use lib.Seq.{getD-take, getD-drop, take-at}
 use lib.Ieee.{Float}
 use borrow.Rule.Slice.PartMut.{putMid, postOf}
-use Rattle.style.specs.Style.{wordAt, lengthAt, sizeAt, rectAt, styleAt}
+use Rattle.style.specs.Style.{wordAt, lengthAt, sizeAt, rectAt, measureAt, styleAt}
 use Rattle.tree.specs.Tree.{Tree, Forest, node, none, more, countT, countF, flatT, flatF}
 use Rattle.tree.specs.Table.{Entry, from}
 use Rattle.tree.proofs.Laws.{countT-node, countF-none, countF-more, flatT-node, flatF-more, length-flatT, length-flatF}
@@ -21,7 +21,7 @@ use Rattle.walks.specs.Tables.{siteEntry, oldNumbers, oldWords, TabledT,
 
 -- a style is read off three words and the numbers
 style-same : (ws us : List ℕ) (i j : ℕ) (xs : List Float) (m : ℕ) → wordAt ws i 1 ≡ wordAt us j 1 → wordAt ws i 2 ≡ wordAt us j 2 → wordAt ws i 3 ≡ wordAt us j 3 → styleAt ws i xs m ≡ styleAt us j xs m
-unfolding styleAt sizeAt rectAt lengthAt
+unfolding styleAt sizeAt rectAt lengthAt measureAt
 style-same ws us i j xs m p q r = rw (p, q, r)
 
 word-part : (ws : List ℕ) (a d m k c : ℕ) → d ≡ 4 * a → k * 4 + c < m → wordAt (take m (drop d ws)) k c ≡ wordAt ws (a + k) c

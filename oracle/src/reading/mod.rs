@@ -11,7 +11,7 @@ use crate::arithmetic::{clamp, larger, Set};
 use crate::outcome::{Outcome, Row, BAD_STYLE};
 use crate::page::{field, Align, Ask, Available, Kind, Overflow, Page, Question, BOTTOM, TOP};
 use crate::rules::{Rule, Rules};
-use sizes::{across, definite_height, down, known_sizes, Item, Numbers, Pair};
+use sizes::{across, definite_height, down, known_sizes, Numbers, Pair};
 use stack::Frame;
 
 /// What 01 says of the page, refusals and all.
@@ -40,11 +40,12 @@ struct Answer {
     top: Set,
     bottom: Set,
     through: bool,
+    baseline: Option<f32>,
 }
 
 impl Answer {
     fn size(width: f32, height: f32) -> Answer {
-        Answer { width, height, top: Set::EMPTY, bottom: Set::EMPTY, through: false }
+        Answer { width, height, top: Set::EMPTY, bottom: Set::EMPTY, through: false, baseline: None }
     }
 }
 
@@ -79,7 +80,8 @@ impl Reading<'_> {
             Available::MaxContent => max,
             Available::Definite(width) => clamp(width, Some(min), Some(max)),
         });
-        Answer::size(width, question.height.unwrap_or(table(field::LEAF_HEIGHT)))
+        let height = question.height.unwrap_or(table(field::LEAF_HEIGHT));
+        Answer { baseline: self.page.baseline(node), ..Answer::size(width, height) }
     }
 
     fn container(&mut self, node: usize, question: &Question) -> Answer {
@@ -131,10 +133,14 @@ impl Reading<'_> {
         let height = larger(known.height.unwrap_or(clamped), own.least_height);
         let held_by_min = own.min.height.is_some_and(|min| min > 0.0 && min >= height);
         // M, N
+        let shift = self.shift(node, height, content, down(inset));
         if question.ask == Ask::Layout {
-            self.align(node, &items, height, content, down(inset));
+            if let Some(shift) = shift {
+                items.iter().for_each(|item| self.rows[item.node].numbers[1] += shift);
+            }
             self.order_hidden(node);
         }
+        let baseline = stack.baseline.map(|line| shift.map_or(line, |shift| line + shift));
         let margin = |side| self.length(node, field::MARGIN + side, question.parent).unwrap_or(0.0);
         Answer {
             width,
@@ -142,6 +148,7 @@ impl Reading<'_> {
             top: if own_start { stack.top } else { Set::of(margin(TOP)) },
             bottom: if own_end && !held_by_min { stack.strut } else { Set::of(margin(BOTTOM)) },
             through: height == 0.0 && stack.all_through && self.lets_through(node, &own),
+            baseline: baseline.filter(|_| !self.page.contained(node)),
         }
     }
 
@@ -177,17 +184,14 @@ impl Reading<'_> {
     }
 
     /// Step M.
-    fn align(&mut self, node: usize, items: &[Item], height: f32, content: f32, inset: f32) {
+    fn shift(&self, node: usize, height: f32, content: f32, inset: f32) -> Option<f32> {
         let free = (height - inset) - (content - inset);
-        let shift = match self.page.align(node) {
-            Align::Normal | Align::Start | Align::SpaceBetween | Align::Stretch => return,
-            Align::SpaceAround | Align::SpaceEvenly => larger(free, 0.0) / 2.0,
-            _ if self.page.safe(node) && free < 0.0 => 0.0,
-            Align::Center => free / 2.0,
-            Align::End => free,
-        };
-        for item in items {
-            self.rows[item.node].numbers[1] += shift;
+        match self.page.align(node) {
+            Align::Normal | Align::Start | Align::SpaceBetween | Align::Stretch => None,
+            Align::SpaceAround | Align::SpaceEvenly => Some(larger(free, 0.0) / 2.0),
+            _ if self.page.safe(node) && free < 0.0 => Some(0.0),
+            Align::Center => Some(free / 2.0),
+            Align::End => Some(free),
         }
     }
 

@@ -11,10 +11,11 @@ fn ratio_beside_fraction(page: &Page, node: usize) -> bool {
     page.ratio(node).is_some() && heights.iter().any(|field| page.unit(node, *field) == FRACTION)
 }
 
-/// A word beyond the four or beside bits 10-11, safe beside neither center nor end, an unused bit.
+/// A word beyond the four or beside bits 10-11, safe beside neither center nor end, a baseline on a non-leaf, an
+/// unused bit.
 fn bad_align(style: u32) -> bool {
     let (plain, word, safe) = (style >> 10 & 3, style >> 13 & 7, style >> 17 & 1 == 1);
-    word > 4 || word != 0 && plain != 0 || safe && plain < 2 || style >> 16 & 1 == 1 || style >> 18 != 0
+    word > 4 || word != 0 && plain != 0 || safe && plain < 2 || style >> 16 & 1 == 1 && style & 3 != 1 || style >> 18 != 0
 }
 
 /// A code that means nothing, an unused bit, a unit that the field may not have, a root that is no block.

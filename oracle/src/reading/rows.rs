@@ -2,7 +2,7 @@
 use super::sizes::Item;
 use super::stack::{Frame, Stack};
 use super::{Answer, Reading};
-use crate::outcome::{Candidate, BASIS, HEIGHT_ASKED, LAID, OUT, PROBED, PROBE_HEIGHT, THROUGH};
+use crate::outcome::{Candidate, BASIS, HEIGHT_ASKED, LAID, LINED, OUT, PROBED, PROBE_HEIGHT, THROUGH};
 use crate::page::{Available, Kind, Question, LEFT, RIGHT};
 use crate::rules::Rule;
 
@@ -30,6 +30,10 @@ impl Reading<'_> {
         }
         if question.basis.is_some() {
             row.bits |= BASIS;
+        }
+        if let Some(line) = answer.baseline {
+            row.numbers[15] = line;
+            row.bits |= LINED;
         }
     }
 

@@ -1,8 +1,8 @@
 //! Steps J and K: the children one below the other.
 use super::sizes::{across, asked_height, down, Item, Numbers, Sides};
-use super::Reading;
+use super::{Answer, Reading};
 use crate::arithmetic::{clamp, larger, Set};
-use crate::page::{field, Ask, Available, Position, Question, BOTTOM, LEFT, RIGHT, TOP};
+use crate::page::{field, Ask, Available, Overflow, Position, Question, BOTTOM, LEFT, RIGHT, TOP};
 use crate::rules::Rule;
 
 /// A container in step J: what does not change from child to child.
@@ -24,6 +24,8 @@ pub(super) struct Stack {
     pub top: Set,
     pub at_top: bool,
     pub all_through: bool,
+    /// The first baseline so far.
+    pub baseline: Option<f32>,
     /// Where block.rs has the line of a box out of the flow (LineAfterThrough).
     pub rust_line: f32,
 }
@@ -62,6 +64,7 @@ impl Reading<'_> {
             top: Set::EMPTY,
             at_top: true,
             all_through: true,
+            baseline: None,
             rust_line: top,
         };
         for item in items {
@@ -87,6 +90,9 @@ impl Reading<'_> {
             let x = self.place_x(item.node, frame, &margins, answer.width, stretch, move_x);
             self.note_place(item, x, y);
         }
+        if stack.baseline.is_none() {
+            stack.baseline = self.line_of(item.node, &answer, y, move_y);
+        }
         if answer.through {
             stack.rust_line = (stack.y + answer.height) + gap;
             stack.strut = stack.strut.join(top).join(bottom);
@@ -107,6 +113,18 @@ impl Reading<'_> {
         stack.at_top = false;
         stack.all_through = false;
         stack.rust_line = stack.y + stack.strut.sum();
+    }
+
+    /// The baseline of a child that was moved by that much to y.
+    fn line_of(&self, node: usize, answer: &Answer, y: f32, moved: f32) -> Option<f32> {
+        let scrolls = matches!(self.page.overflow_y(node), Overflow::Hidden | Overflow::Scroll);
+        let line = if scrolls && self.on(Rule::ScrolledLine) {
+            Some(answer.baseline.unwrap_or(answer.height).min(answer.height).max(0.0))
+        } else {
+            answer.baseline
+        };
+        let y = if self.on(Rule::LineUnmoved) { y - moved } else { y };
+        line.map(|line| y + line)
     }
 
     fn margins(&self, node: usize, inner: f32) -> Margins {

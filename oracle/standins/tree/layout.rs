@@ -61,7 +61,7 @@ impl CollapsibleMarginSet {
     }
 }
 
-/// Nothing that is compared depends on baselines.
+/// The first baseline alone: blocks have no other.
 #[derive(Copy, Clone, PartialEq, Debug)]
 pub struct Baselines {
     pub first: Option<f32>,

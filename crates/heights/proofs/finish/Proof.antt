@@ -17,7 +17,7 @@ shift-of-requires c κs = search needs
 
 returns : tie.Need-returns
 unfolding finished
-returns c = rw (c .shift-of .ensures, c .before .output-of .ensures, c .before .before .outer-height .ensures, c .before .before .before .content-height .ensures)
+returns c = rw (c .output-of .ensures, c .before .shift-of .ensures, c .before .before .outer-height .ensures, c .before .before .before .content-height .ensures)
 
 pub finish-spec : {M : Type 1} → statement M
 finish-spec =
@@ -25,6 +25,6 @@ finish-spec =
     (tie.spec
     content-height-requires
     outer-height-requires
-    output-of-requires
     shift-of-requires
+    output-of-requires
     returns)

@@ -21,9 +21,12 @@ passed-out-requires-2 c κs = search needs
 can-be-collapsed-through-requires : tie.Need-can-be-collapsed-through-requires
 can-be-collapsed-through-requires c κs = search needs
 
+block-baseline-requires : tie.Need-block-baseline-requires
+block-baseline-requires c κs = search needs
+
 returns : tie.Need-returns
 unfolding outputOf
-returns c = rw (c .can-be-collapsed-through .ensures, c .before .passed-out2 .ensures, c .before .before .resolve-or-zero2 .ensures, c .before .before .before .own-end .ensures, c .before .before .before .before .passed-out .ensures, c .before .before .before .before .before .resolve-or-zero .ensures)
+returns c = rw (c .block-baseline .ensures, c .before .can-be-collapsed-through .ensures, c .before .before .passed-out2 .ensures, c .before .before .before .resolve-or-zero2 .ensures, c .before .before .before .before .own-end .ensures, c .before .before .before .before .before .passed-out .ensures, c .before .before .before .before .before .before .resolve-or-zero .ensures)
 
 pub output-of-spec : {M : Type 1} → statement M
 output-of-spec =
@@ -35,4 +38,5 @@ output-of-spec =
     resolve-or-zero-requires-2
     passed-out-requires-2
     can-be-collapsed-through-requires
+    block-baseline-requires
     returns)

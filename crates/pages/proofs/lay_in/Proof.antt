@@ -28,7 +28,7 @@ mul-lay-cut-2 : tie.Need-mul-lay-cut-2
 mul-lay-cut-2 c = search needs
 
 slice-aggregate-lay-cut-2 : tie.Need-slice-aggregate-lay-cut-2
-slice-aggregate-lay-cut-2 c = let a = c .before .before .before .before .before .before .before .before .before .before .before .args in cut-long (27 * a .h .count) (now (a .numbers)) (c .before .before .before .before .before .before .before .before .before .before .before .pre .0 .numbers-long)
+slice-aggregate-lay-cut-2 c = let a = c .before .before .before .before .before .before .before .before .before .before .before .args in cut-long (28 * a .h .count) (now (a .numbers)) (c .before .before .before .before .before .before .before .before .before .before .before .pre .0 .numbers-long)
 
 mul-lay-cut-3 : tie.Need-mul-lay-cut-3
 mul-lay-cut-3 c = search needs

@@ -36,9 +36,18 @@ mul-result-4 c = search needs
 add-result-4 : tie.Need-add-result-4
 add-result-4 c = search needs
 
+one-requires-4 : tie.Need-one-requires-4
+one-requires-4 c κs = search needs
+
+mul-result-5 : tie.Need-mul-result-5
+mul-result-5 c = search needs
+
+add-result-5 : tie.Need-add-result-5
+add-result-5 c = search needs
+
 returns : tie.Need-returns
 unfolding headBits
-returns c = rw (c .one3 .ensures .0, c .before .one2 .ensures .0, c .before .before .one .ensures .0)
+returns c = rw (c .one4 .ensures .0, c .before .one3 .ensures .0, c .before .before .one2 .ensures .0, c .before .before .before .one .ensures .0)
 
 pub head-bits-spec : {M : Type 1} → statement M
 head-bits-spec =
@@ -55,4 +64,7 @@ head-bits-spec =
     one-requires-3
     mul-result-4
     add-result-4
+    one-requires-4
+    mul-result-5
+    add-result-5
     returns)

@@ -55,6 +55,9 @@ or-zero-requires-4 c κs = search needs
 slice-write-rows-12 : tie.Need-slice-write-rows-12
 slice-write-rows-12 c = simp length-set (omega arith)
 
+or-zero-requires-5 : tie.Need-or-zero-requires-5
+or-zero-requires-5 c κs = search needs
+
 slice-write-rows-13 : tie.Need-slice-write-rows-13
 slice-write-rows-13 c = simp length-set (omega arith)
 
@@ -69,6 +72,9 @@ is-some-requires c κs = search needs
 
 is-some-requires-2 : tie.Need-is-some-requires-2
 is-some-requires-2 c κs = search needs
+
+is-some-requires-3 : tie.Need-is-some-requires-3
+is-some-requires-3 c κs = search needs
 
 head-bits-requires : tie.Need-head-bits-requires
 head-bits-requires c κs = search needs
@@ -85,8 +91,9 @@ same-length-2 c = search needs
 returns : tie.Need-returns
 unfolding probeOf laidRow headBits
 returns c =
-    let at-basis = c .before .before .before .before in
-    λ r z y er em. (rw (at-basis .or-zero4 .ensures, at-basis .before .or-zero3 .ensures, at-basis .before .before .or-zero2 .ensures, at-basis .before .before .before .or-zero .ensures, er), rw (c .head-bits .ensures, c .before .is-some2 .ensures, c .before .before .is-some .ensures, em))
+    let at-lined = c .before .before .before .before .before in
+    let at-basis = at-lined .before in
+    λ r z y er em. (rw (at-lined .or-zero5 .ensures, at-basis .or-zero4 .ensures, at-basis .before .or-zero3 .ensures, at-basis .before .before .or-zero2 .ensures, at-basis .before .before .before .or-zero .ensures, er), rw (c .head-bits .ensures, c .before .is-some3 .ensures, c .before .before .is-some2 .ensures, c .before .before .before .is-some .ensures, em))
 
 pub put-head-spec : {M : Type 1} → statement M
 put-head-spec =
@@ -108,11 +115,13 @@ put-head-spec =
     slice-write-rows-11
     or-zero-requires-4
     slice-write-rows-12
+    or-zero-requires-5
     slice-write-rows-13
     slice-write-marks
     slice-read-head-bits
     is-some-requires
     is-some-requires-2
+    is-some-requires-3
     head-bits-requires
     slice-write-marks-2
     same-length

@@ -15,8 +15,8 @@ pick-set-requires c κs = search needs
 next-shown-requires : tie.Need-next-shown-requires
 next-shown-requires c κs = search needs
 
-add-t14 : tie.Need-add-t14
-add-t14 c = search needs
+add-t15 : tie.Need-add-t15
+add-t15 c = search needs
 
 returns : tie.Need-returns
 unfolding pastBox
@@ -30,5 +30,5 @@ past-box-spec =
     collapse-with-set-requires
     pick-set-requires
     next-shown-requires
-    add-t14
+    add-t15
     returns)

@@ -21,8 +21,8 @@ pick-set-requires c κs = search needs
 next-shown-requires : tie.Need-next-shown-requires
 next-shown-requires c κs = search needs
 
-add-t13 : tie.Need-add-t13
-add-t13 c = search needs
+add-t14 : tie.Need-add-t14
+add-t14 c = search needs
 
 returns : tie.Need-returns
 unfolding pastThrough
@@ -38,5 +38,5 @@ past-through-spec =
     collapse-with-set-requires-4
     pick-set-requires
     next-shown-requires
-    add-t13
+    add-t14
     returns)

@@ -9,6 +9,9 @@ top-margins-requires c κs = search needs
 bottom-margins-requires : tie.Need-bottom-margins-requires
 bottom-margins-requires c κs = search needs
 
+baseline-past-requires : tie.Need-baseline-past-requires
+baseline-past-requires c κs = search needs
+
 past-through-requires : tie.Need-past-through-requires
 past-through-requires c κs = search needs
 
@@ -17,11 +20,11 @@ past-box-requires c κs = search needs
 
 returns : tie.Need-returns
 unfolding stepped
-returns c = rw (c .past-through .ensures, c .before .before .bottom-margins .ensures, c .before .before .before .top-margins .ensures, c .before .if1 .taken)
+returns c = rw (c .past-through .ensures, c .before .before .baseline-past .ensures, c .before .before .before .bottom-margins .ensures, c .before .before .before .before .top-margins .ensures, c .before .if1 .taken)
 
 returns-2 : tie.Need-returns-2
 unfolding stepped
-returns-2 c = rw (c .past-box .ensures, c .before .before .bottom-margins .ensures, c .before .before .before .top-margins .ensures, c .before .if1 .left)
+returns-2 c = rw (c .past-box .ensures, c .before .before .baseline-past .ensures, c .before .before .before .bottom-margins .ensures, c .before .before .before .before .top-margins .ensures, c .before .if1 .left)
 
 pub stepped-past-spec : {M : Type 1} → statement M
 stepped-past-spec =
@@ -29,6 +32,7 @@ stepped-past-spec =
     (tie.spec
     top-margins-requires
     bottom-margins-requires
+    baseline-past-requires
     past-through-requires
     past-box-requires
     returns

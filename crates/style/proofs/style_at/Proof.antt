@@ -69,8 +69,8 @@ ratio-from-requires c κs = search needs
 number-in-requires-2 : tie.Need-number-in-requires-2
 number-in-requires-2 c κs = search needs
 
-measure-at-requires : tie.Need-measure-at-requires
-measure-at-requires c κs = search needs
+measure-in-requires : tie.Need-measure-in-requires
+measure-in-requires c κs = search needs
 
 returns : tie.Need-returns
 unfolding styleAt
@@ -78,7 +78,7 @@ returns c =
     let a = c .before .before .before .before .before .before .before .before .before .before .before .before .before .before .before .before .before .before .before .before .before .before .before .before .args in
     let ws = now (a .words) in
     let xs = now (a .numbers) in
-    rw (c .measure-at .ensures, c .before .number-in2 .ensures, c .before .before .ratio-from .ensures, c .before .before .before .number-in .ensures, c .before .before .before .before .rect-in4 .ensures, c .before .before .before .before .before .rect-in3 .ensures) (rw (c .before .before .before .before .before .before .rect-in2 .ensures, c .before .before .before .before .before .before .before .rect-in .ensures, c .before .before .before .before .before .before .before .before .size-in3 .ensures, c .before .before .before .before .before .before .before .before .before .size-in2 .ensures, c .before .before .before .before .before .before .before .before .before .before .size-in .ensures) (rw (c .before .before .before .before .before .before .before .before .before .before .before .flag4 .ensures, c .before .before .before .before .before .before .before .before .before .before .before .before .flag3 .ensures, c .before .before .before .before .before .before .before .before .before .before .before .before .before .align-of .ensures, c .before .before .before .before .before .before .before .before .before .before .before .before .before .before .overflow-of .ensures, c .before .before .before .before .before .before .before .before .before .before .before .before .before .before .before .position-of .ensures, c .before .before .before .before .before .before .before .before .before .before .before .before .before .before .before .before .flag2 .ensures) (rw (c .before .before .before .before .before .before .before .before .before .before .before .before .before .before .before .before .before .flag .ensures, c .before .before .before .before .before .before .before .before .before .before .before .before .before .before .before .before .before .before .kind-of .ensures, c .before .before .before .before .before .before .before .before .before .before .before .before .before .before .before .before .before .before .before .word3 .ensures, c .before .before .before .before .before .before .before .before .before .before .before .before .before .before .before .before .before .before .before .before .word2 .ensures, c .before .before .before .before .before .before .before .before .before .before .before .before .before .before .before .before .before .before .before .before .before .word .ensures) (rw (size-first ws (a .i) xs (a .j) 0 (omega arith), size-first ws (a .i) xs (a .j) 2 (omega arith), size-first ws (a .i) xs (a .j) 4 (omega arith), rect-first ws (a .i) xs (a .j) 6 (omega arith), rect-first ws (a .i) xs (a .j) 10 (omega arith), rect-second ws (a .i) xs (a .j) 0, rect-second ws (a .i) xs (a .j) 4)))))
+    rw (c .measure-in .ensures, c .before .number-in2 .ensures, c .before .before .ratio-from .ensures, c .before .before .before .number-in .ensures, c .before .before .before .before .rect-in4 .ensures, c .before .before .before .before .before .rect-in3 .ensures) (rw (c .before .before .before .before .before .before .rect-in2 .ensures, c .before .before .before .before .before .before .before .rect-in .ensures, c .before .before .before .before .before .before .before .before .size-in3 .ensures, c .before .before .before .before .before .before .before .before .before .size-in2 .ensures, c .before .before .before .before .before .before .before .before .before .before .size-in .ensures) (rw (c .before .before .before .before .before .before .before .before .before .before .before .flag4 .ensures, c .before .before .before .before .before .before .before .before .before .before .before .before .flag3 .ensures, c .before .before .before .before .before .before .before .before .before .before .before .before .before .align-of .ensures, c .before .before .before .before .before .before .before .before .before .before .before .before .before .before .overflow-of .ensures, c .before .before .before .before .before .before .before .before .before .before .before .before .before .before .before .position-of .ensures, c .before .before .before .before .before .before .before .before .before .before .before .before .before .before .before .before .flag2 .ensures) (rw (c .before .before .before .before .before .before .before .before .before .before .before .before .before .before .before .before .before .flag .ensures, c .before .before .before .before .before .before .before .before .before .before .before .before .before .before .before .before .before .before .kind-of .ensures, c .before .before .before .before .before .before .before .before .before .before .before .before .before .before .before .before .before .before .before .word3 .ensures, c .before .before .before .before .before .before .before .before .before .before .before .before .before .before .before .before .before .before .before .before .word2 .ensures, c .before .before .before .before .before .before .before .before .before .before .before .before .before .before .before .before .before .before .before .before .before .word .ensures) (rw (size-first ws (a .i) xs (a .j) 0 (omega arith), size-first ws (a .i) xs (a .j) 2 (omega arith), size-first ws (a .i) xs (a .j) 4 (omega arith), rect-first ws (a .i) xs (a .j) 6 (omega arith), rect-first ws (a .i) xs (a .j) 10 (omega arith), rect-second ws (a .i) xs (a .j) 0, rect-second ws (a .i) xs (a .j) 4)))))
 
 pub style-at-spec : {M : Type 1} → statement M
 style-at-spec =
@@ -105,5 +105,5 @@ style-at-spec =
     number-in-requires
     ratio-from-requires
     number-in-requires-2
-    measure-at-requires
+    measure-in-requires
     returns)

@@ -62,7 +62,17 @@ returns-6 c = rw (← c .before .before .before .before .before .before .before 
 
 returns-7 : tie.Need-returns-7
 unfolding badNumbers
-returns-7 c = rw (← c .before .before .before .before .before .before .before .before .before .before .before .before .before .before .before .before .some-bad-field .ensures, ← c .before .before .before .before .before .before .before .before .before .before .before .before .before .before .number-in .ensures, ← c .before .before .before .before .before .before .before .before .before .before .before .before .before .bad-ratio .ensures, ← c .before .before .before .before .before .before .before .before .before .before .before .number-in2 .ensures, ← c .before .before .before .before .before .before .before .before .before .before .bad-pixels .ensures, ← c .before .before .before .before .before .before .before .before .number-in3 .ensures, ← c .before .before .before .before .before .before .before .bad-pixels2 .ensures, ← c .before .before .before .before .before .number-in4 .ensures, ← c .before .before .before .before .bad-pixels3 .ensures, ← c .before .before .number-in5 .ensures, ← c .before .bad-pixels4 .ensures, c .if6 .left, c .before .before .before .if5 .left, c .before .before .before .before .before .before .if4 .left, c .before .before .before .before .before .before .before .before .before .if3 .left, c .before .before .before .before .before .before .before .before .before .before .before .before .if2 .left, c .before .before .before .before .before .before .before .before .before .before .before .before .before .before .before .if1 .left)
+returns-7 c = rw (← c .before .before .before .before .before .before .before .before .before .before .before .before .before .before .before .before .before .some-bad-field .ensures, ← c .before .before .before .before .before .before .before .before .before .before .before .before .before .before .before .number-in .ensures, ← c .before .before .before .before .before .before .before .before .before .before .before .before .before .before .bad-ratio .ensures, ← c .before .before .before .before .before .before .before .before .before .before .before .before .number-in2 .ensures, ← c .before .before .before .before .before .before .before .before .before .before .before .bad-pixels .ensures, ← c .before .before .before .before .before .before .before .before .before .number-in3 .ensures, ← c .before .before .before .before .before .before .before .before .bad-pixels2 .ensures, ← c .before .before .before .before .before .before .number-in4 .ensures, ← c .before .before .before .before .before .bad-pixels3 .ensures, ← c .before .before .before .number-in5 .ensures, ← c .before .before .bad-pixels4 .ensures, c .before .if6 .left, c .before .before .before .before .if5 .left, c .before .before .before .before .before .before .before .if4 .left, c .before .before .before .before .before .before .before .before .before .before .if3 .left, c .before .before .before .before .before .before .before .before .before .before .before .before .before .if2 .left, c .before .before .before .before .before .before .before .before .before .before .before .before .before .before .before .before .if1 .left, c .if7 .taken)
+
+number-in-requires-6 : tie.Need-number-in-requires-6
+number-in-requires-6 c κs = search needs
+
+in-range-requires : tie.Need-in-range-requires
+in-range-requires c κs = search needs
+
+returns-8 : tie.Need-returns-8
+unfolding badNumbers
+returns-8 c = rw (← c .before .before .before .before .before .before .before .before .before .before .before .before .before .before .before .before .before .before .before .some-bad-field .ensures, ← c .before .before .before .before .before .before .before .before .before .before .before .before .before .before .before .before .before .number-in .ensures, ← c .before .before .before .before .before .before .before .before .before .before .before .before .before .before .before .before .bad-ratio .ensures, ← c .before .before .before .before .before .before .before .before .before .before .before .before .before .before .number-in2 .ensures, ← c .before .before .before .before .before .before .before .before .before .before .before .before .before .bad-pixels .ensures, ← c .before .before .before .before .before .before .before .before .before .before .before .number-in3 .ensures, ← c .before .before .before .before .before .before .before .before .before .before .bad-pixels2 .ensures, ← c .before .before .before .before .before .before .before .before .number-in4 .ensures, ← c .before .before .before .before .before .before .before .bad-pixels3 .ensures, ← c .before .before .before .before .before .number-in5 .ensures, ← c .before .before .before .before .bad-pixels4 .ensures, c .before .before .before .if6 .left, c .before .before .before .before .before .before .if5 .left, c .before .before .before .before .before .before .before .before .before .if4 .left, c .before .before .before .before .before .before .before .before .before .before .before .before .if3 .left, c .before .before .before .before .before .before .before .before .before .before .before .before .before .before .before .if2 .left, c .before .before .before .before .before .before .before .before .before .before .before .before .before .before .before .before .before .before .if1 .left, ← c .before .number-in6 .ensures, ← c .in-range .ensures, c .before .before .if7 .left)
 
 pub bad-numbers-spec : {M : Type 1} → statement M
 bad-numbers-spec =
@@ -85,4 +95,7 @@ bad-numbers-spec =
     number-in-requires-5
     bad-pixels-requires-4
     returns-6
-    returns-7)
+    returns-7
+    number-in-requires-6
+    in-range-requires
+    returns-8)

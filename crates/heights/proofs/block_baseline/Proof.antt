@@ -1,0 +1,18 @@
+use Rattle.steps.specs.Baseline.{blockBaseline}
+use borrow.Author.Needs.{needs}
+use Rattle.heights.proofs.block_baseline.Statement.{statement}
+use Rattle.heights.proofs.block_baseline.Tie as tie
+
+shifted-requires : tie.Need-shifted-requires
+shifted-requires c κs = search needs
+
+returns : tie.Need-returns
+unfolding blockBaseline
+returns c = rw (c .if1 .taken)
+
+returns-2 : tie.Need-returns-2
+unfolding blockBaseline
+returns-2 c = rw (c .shifted .ensures, c .before .if1 .left)
+
+pub block-baseline-spec : {M : Type 1} → statement M
+block-baseline-spec = tie.close (tie.spec shifted-requires returns returns-2)
