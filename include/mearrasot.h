@@ -24,7 +24,7 @@ extern "C" {
  * is not in the archive: take header and archive from the same commit.
  */
 #define MEARRASOT_VERSION_MAJOR 3
-#define MEARRASOT_VERSION_MINOR 0
+#define MEARRASOT_VERSION_MINOR 1
 #define MEARRASOT_VERSION_PATCH 0
 
 /* ---- Limits ---- */
@@ -347,6 +347,20 @@ uint64_t mearrasot_coarse(const uint32_t *words, uint64_t words_len,
                           const float *rows, uint64_t rows_len,
                           const uint32_t *marks, uint64_t marks_len,
                           int32_t *pixels, uint64_t pixels_len);
+
+/*
+ * Whether the rows of a page keep their order: 1 for yes, 0 for no; no answer
+ * with a number and a place. Yes if at every node the top and bottom margins
+ * are auto or pixels not below 0, the top and bottom paddings and borders are
+ * auto or pixels, the position is not relative, and align is normal, start,
+ * space-between or stretch. Then, whenever a layout accepts the page, or a
+ * relayout that was told of every change, of two laid children of one node the
+ * later one's y is not less than the earlier one's y + height, one sum in float:
+ * the order is that of the document, and no box stands on another. It tests
+ * nothing else: tables that a layout refuses may get a yes.
+ */
+uint64_t mearrasot_keeps_order(const uint32_t *words, uint64_t words_len,
+                               const float *numbers, uint64_t numbers_len);
 
 #ifdef __cplusplus
 }

@@ -371,6 +371,12 @@ static inline uint64_t mearrasot_show_coarse(const struct mearrasot_builder *b, 
     return mearrasot_coarse_page(&p, pixels);
 }
 
+/* Whether the rows of the page keep their order, as mearrasot_keeps_order says. */
+static inline uint64_t mearrasot_keeps(const struct mearrasot_builder *b) {
+    const struct mearrasot_page p = mearrasot_page_of(b);
+    return mearrasot_keeps_order_page(&p);
+}
+
 /* An answer in words; its place says where. */
 static inline const char *mearrasot_text(uint64_t answer) {
     static const char *const texts[] = {

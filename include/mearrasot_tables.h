@@ -276,6 +276,13 @@ static inline uint64_t mearrasot_coarse_page(const struct mearrasot_page *p, int
         MEARRASOT_SLICE(pixels, MEARRASOT_PIXEL_BOX * p->nodes, pixel));
 }
 
+static inline uint64_t mearrasot_keeps_order_page(const struct mearrasot_page *p) {
+    uint32_t word[1] = {0};
+    float number[1] = {0};
+    return mearrasot_keeps_order(MEARRASOT_SLICE(p->words, MEARRASOT_WORDS * p->nodes, word),
+                                 MEARRASOT_SLICE(p->numbers, MEARRASOT_NUMBERS * p->nodes, number));
+}
+
 /* ---- A part of a page ---- */
 
 /*

@@ -3,12 +3,14 @@ ghost use mathlib.Core.Path.{_≡_};
 ghost use Prim.Native.Nat.{_≤_};
 ghost use Rattle.steps.specs.Noes.{paper};
 ghost use Rattle.steps.specs.Question.{rootInput};
+ghost use Rattle.steps.specs.Row.{bit};
 ghost use Rattle.steps.specs.Results.{layoutResult, relayoutResult, sizeResult, sizePaper};
 ghost use Rattle.face.specs.Question.{given, availableOf, plainQuestion, axisOf};
 ghost use Rattle.face.specs.Answered.{Halves, Answered, Sized, IndexAnswered, Scrolled, CoarseAnswered};
 ghost use Rattle.index.specs.Index.{indexPaper, indexResult};
 ghost use Rattle.scroll.specs.Scroll.{scrollAnswer};
 ghost use Rattle.coarse.specs.Coarse.{coarsePaper, coarseResult};
+ghost use Rattle.order.specs.Class.{keepsOrder};
 use coarse::CoarseAnswer;
 use index::IndexAnswer;
 use length::AvailableSpace;
@@ -234,4 +236,13 @@ pub extern "C" fn mearrasot_coarse(
 {
     let a = coarse::coarse(words, rows, marks, out);
     packed_coarse(a)
+}
+
+// Whether the rows of a page keep their order: 1 for yes, 0 for no.
+#[no_mangle]
+pub extern "C" fn mearrasot_keeps_order(words: &[u32], numbers: &[f32]) -> u64
+    ensures { λ r. ⌜ r ≡ bit (keepsOrder (now (words .entry)) (now (numbers .entry))) ⌝ }
+{
+    let yes = keeps::keeps_order(words, numbers);
+    if yes { 1 } else { 0 }
 }

@@ -3,5 +3,4 @@ pub mod Worked
 pub mod Floor
 pub mod Value
 pub mod Laws
-pub mod Sums
 pub mod Sizes

@@ -236,7 +236,7 @@ module _ (f : Format) (x : Float) (c : ℕ) (p : 0 < c) where
       let z : a - 0 ≡ a = omega arith in
       rw (le-ltb a 0 zero-le) (ap (λ (k : ℕ). round f false k c) z)
 
-size-none : (n : ℕ) (d : ℤ) (k : ℕ) → lt (fin true n d) zeroF ≡ false → n * up d * k ≡ 0
+pub size-none : (n : ℕ) (d : ℤ) (k : ℕ) → lt (fin true n d) zeroF ≡ false → n * up d * k ≡ 0
 unfolding lt ofBits
 size-none n d k h =
     let a = ltb-false 0 (n * up d * 1 + 0 * 1 * down d) h in
@@ -275,3 +275,17 @@ add-not-less f (fin s m e) (fin r n d) t h = go r h
     go true h =
         subst (λ (z : ℕ). lt (sum f s (m * up e * down d) true z (down e * down d)) (fin s m e) ≡ false) (sym (size-none n d (down e) h))
         (subst (λ (z : Float). lt z (fin s m e) ≡ false) (sym (sum-none f (fin s m e) (down e * down d) (mul-pos (down-pos e) (down-pos d)) s (m * up e * down d))) own)
+
+nan-add : (f : Format) (x y z : Float) → isNan x ≡ true → lt (add f x y) z ≡ false
+unfolding isNan add lt
+nan-add f nan y z e = refl
+nan-add f (inf s) y z e = absurd (false≢true e)
+nan-add f (fin s m d) y z e = absurd (false≢true e)
+
+-- whatever x is not less than; through a NaN too
+pub add-chain : (f : Format) (x y z : Float) → T (fits f x) → lt y zeroF ≡ false → lt x z ≡ false → lt (add f x y) z ≡ false
+add-chain f x y z t h g = go (isNan x) refl
+  where
+    go : (b : Bool) → isNan x ≡ b → lt (add f x y) z ≡ false
+    go true e = nan-add f x y z e
+    go false e = lt-none (add f x y) x z e (add-not-less f x y t h) g

@@ -1,0 +1,14 @@
+pub mod Class
+pub mod Exact
+pub mod Steady
+pub mod Sets
+pub mod Cursors
+pub mod Answers
+pub mod Rows
+pub mod Stacks
+pub mod Through
+pub mod InOrder
+pub mod Fresh
+pub mod Nodes
+pub mod Accepted
+pub mod Needed
