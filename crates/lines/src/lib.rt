@@ -68,7 +68,7 @@ pub enum NumLine {
 }
 
 // Field k as eight hex digits.
-fn hex_field(s: &[u8], k: usize) -> Value
+pub fn hex_field(s: &[u8], k: usize) -> Value
     ensures { λ r. ⌜ r ≡ hexOf (fieldOf (now (s .entry)) k) ⌝ }
 {
     let a = text::piece_start(s, b',', k);
@@ -77,7 +77,7 @@ fn hex_field(s: &[u8], k: usize) -> Value
 }
 
 // Field k as a decimal number up to the limit.
-fn decimal_field(s: &[u8], k: usize, limit: u32) -> Value
+pub fn decimal_field(s: &[u8], k: usize, limit: u32) -> Value
     ensures { λ r. ⌜ r ≡ valueOf 10 limit (fieldOf (now (s .entry)) k) ⌝ }
 {
     let a = text::piece_start(s, b',', k);
@@ -86,7 +86,7 @@ fn decimal_field(s: &[u8], k: usize, limit: u32) -> Value
 }
 
 // A known size: none, or a bit pattern.
-fn known_size(s: &[u8]) -> Known
+pub fn known_size(s: &[u8]) -> Known
     ensures { λ r. ⌜ r ≡ knownField (now (s .entry)) ⌝ }
 {
     if text::is_text(s, b"none") {
@@ -155,7 +155,8 @@ fn available(v: Value) -> AvailLine
     }
 }
 
-fn avail_text(s: &[u8]) -> AvailLine
+// What avail= says: min, max or a bit pattern.
+pub fn avail_text(s: &[u8]) -> AvailLine
     ensures { λ r. ⌜ r ≡ availText (now (s .entry)) ⌝ }
 {
     if text::is_text(s, b"min") {
@@ -314,7 +315,8 @@ fn num_of(f: Value, w: Value) -> NumLine
     }
 }
 
-fn num_text(s: &[u8]) -> NumLine
+// What num= says: a field and a bit pattern.
+pub fn num_text(s: &[u8]) -> NumLine
     ensures { λ r. ⌜ r ≡ numText (now (s .entry)) ⌝ }
 {
     if text::separators(s, b',') != 1 {

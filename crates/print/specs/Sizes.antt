@@ -17,21 +17,21 @@ digits-by : (k n : ℕ) (b : Bool) → length (decimal k (n / 10)) ≤ k → len
 digits-by k n true h = omega arith
 digits-by k n false h = simp length-append (omega arith)
 
-decimal-short : (k n : ℕ) → length (decimal k n) ≤ k
+pub decimal-short : (k n : ℕ) → length (decimal k n) ≤ k
 unfolding decimal
 decimal-short zero n = omega arith
 decimal-short (suc k) n = digits-by k n (ltb n 10) (decimal-short k (n / 10))
 
-hex-long : (k w : ℕ) → length (hexText k w) ≡ k
+pub hex-long : (k w : ℕ) → length (hexText k w) ≡ k
 unfolding hexText
 hex-long zero w = refl
 hex-long (suc k) w = simp length-append (omega (arith, hex-long k (w / 16)))
 
-count-short : (n : ℕ) → length (countText n) ≤ 21
+pub count-short : (n : ℕ) → length (countText n) ≤ 21
 unfolding countText
 count-short n = omega (arith, decimal-short 20 n)
 
-number-long : (x : Float) → length (numberText x) ≡ 9
+pub number-long : (x : Float) → length (numberText x) ≡ 9
 unfolding numberText
 number-long x = omega (arith, hex-long 8 (toBits binary32 x))
 
@@ -54,7 +54,7 @@ candidate-short ws xs i =
     let c = candidateAt ws xs i in
     simp length-append (omega (arith, decimal-short 20 (c .node), count-short (c .order), number-long (c .start), number-long (c .end), number-long (c .line)))
 
-each-short : (f : ℕ → List ℕ) (m : ℕ) → ((i : ℕ) → length (f i) ≤ m) → (n : ℕ) → length (each f n) ≤ m * n
+pub each-short : (f : ℕ → List ℕ) (m : ℕ) → ((i : ℕ) → length (f i) ≤ m) → (n : ℕ) → length (each f n) ≤ m * n
 unfolding each
 each-short f m h zero = omega arith
 each-short f m h (suc n) = simp length-append (omega (arith, each-short f m h n, h n, mul-suc m n))

@@ -16,7 +16,7 @@ use steps::number_of;
 use steps::place_of;
 
 // One byte, if there is room.
-fn put(out: &mut [u8], at: usize, b: u8) -> usize
+pub fn put(out: &mut [u8], at: usize, b: u8) -> usize
     ensures { λ r. ⌜ pen (now (out .exit)) r ≡ putAll (b ∷ []) (pen (now (out .entry)) at) ⌝ }
 {
     if out.len() <= at {
@@ -26,7 +26,8 @@ fn put(out: &mut [u8], at: usize, b: u8) -> usize
     at + 1
 }
 
-fn put_text(out: &mut [u8], at: usize, s: &[u8]) -> usize
+// Some bytes.
+pub fn put_text(out: &mut [u8], at: usize, s: &[u8]) -> usize
     ensures { λ r. ⌜ pen (now (out .exit)) r ≡ putAll (now (s .entry)) (pen (now (out .entry)) at) ⌝ }
 {
     let mut a = at;
@@ -49,7 +50,7 @@ fn glyph(d: u64) -> u8
 }
 
 // At most `places` decimal digits.
-fn put_decimal(out: &mut [u8], at: usize, n: u64, places: usize) -> usize
+pub fn put_decimal(out: &mut [u8], at: usize, n: u64, places: usize) -> usize
     ensures { λ r. ⌜ pen (now (out .exit)) r ≡ putAll (decimal places n) (pen (now (out .entry)) at) ⌝ }
 {
     if places == 0 {
@@ -63,7 +64,7 @@ fn put_decimal(out: &mut [u8], at: usize, n: u64, places: usize) -> usize
 }
 
 // The last `places` hex digits.
-fn put_hex(out: &mut [u8], at: usize, w: u64, places: usize) -> usize
+pub fn put_hex(out: &mut [u8], at: usize, w: u64, places: usize) -> usize
     ensures { λ r. ⌜ pen (now (out .exit)) r ≡ putAll (hexText places w) (pen (now (out .entry)) at) ⌝ }
 {
     if places == 0 {
@@ -74,7 +75,7 @@ fn put_hex(out: &mut [u8], at: usize, w: u64, places: usize) -> usize
 }
 
 // A comma and a count.
-fn put_count(out: &mut [u8], at: usize, n: u64) -> usize
+pub fn put_count(out: &mut [u8], at: usize, n: u64) -> usize
     ensures { λ r. ⌜ pen (now (out .exit)) r ≡ putAll (countText n) (pen (now (out .entry)) at) ⌝ }
 {
     let a = put(out, at, b',');
@@ -82,7 +83,7 @@ fn put_count(out: &mut [u8], at: usize, n: u64) -> usize
 }
 
 // A comma and a number's bit pattern.
-fn put_number(out: &mut [u8], at: usize, x: f32) -> usize
+pub fn put_number(out: &mut [u8], at: usize, x: f32) -> usize
     ensures { λ r. ⌜ pen (now (out .exit)) r ≡ putAll (numberText x) (pen (now (out .entry)) at) ⌝ }
 {
     let a = put(out, at, b',');
@@ -190,7 +191,8 @@ fn put_line(out: &mut [u8], at: usize, key: &[u8], n: u64) -> usize
     put(out, b, b'\n')
 }
 
-fn put_answer(out: &mut [u8], at: usize, number: u32, place: u32) -> usize
+// A number and a place.
+pub fn put_answer(out: &mut [u8], at: usize, number: u32, place: u32) -> usize
     ensures { λ r. ⌜ pen (now (out .exit)) r ≡ putAll (answerText number place) (pen (now (out .entry)) at) ⌝ }
 {
     let a = put_text(out, at, b"answer=");

@@ -1,0 +1,3 @@
+pub mod Beginning
+pub mod Lines
+pub mod Whole
