@@ -1,0 +1,1 @@
+"""Pages for people: HTML to tables, tables to pictures. tools/README.md says how."""
