@@ -231,7 +231,7 @@ enum mearrasot_answer {
     MEARRASOT_DONE = 0,       /* accepted; place: the count of candidates, 0 for a size, an index, a scroll key, whole pixels */
     MEARRASOT_LENGTHS = 1,    /* no node, over 1,024, or tables not of n nodes; place 0 */
     MEARRASOT_TREE = 2,       /* a subtree's size is wrong, a leaf has children, over 32 levels; place: the lowest such node */
-    MEARRASOT_CODES = 3,      /* unknown code, unused bit, forbidden unit, root not a block, ratio beside a fraction of a height; the lowest node */
+    MEARRASOT_CODES = 3,      /* unknown code, unused bit, forbidden unit, root not a block, ratio beside a fraction of a height, MEARRASOT_LINED on no leaf; the lowest node */
     MEARRASOT_BAD_NUMBER = 4, /* NaN, infinite or out of range; the lowest node, n for the question */
     MEARRASOT_ROOM = 5,       /* too few records lent; place 0. Not by mearrasot_size */
     MEARRASOT_EDITS = 6,      /* an edit that is no node, or over 64; its index, or 64. mearrasot_relayout alone */
