@@ -1,5 +1,5 @@
 //! 01's page file, and answers in its form.
-use crate::outcome::{Outcome, Row, LAID, THROUGH};
+use crate::outcome::{Outcome, Row, LAID, LINED, THROUGH};
 use crate::page::{Ask, Available, Page, Question, NUMBERS, WORDS};
 use std::fmt::Write;
 
@@ -123,8 +123,9 @@ pub fn write(page: &Page) -> String {
     out
 }
 
-/// The lines of an answer, the two zeros alike. A box has two lines more than in 01: `sets=` with its
-/// margin sets and whether margins go through it, `asked=` with its bits from 3 on and row numbers 8 to 14.
+/// The lines of an answer, the two zeros alike. A box has three lines more than in 01: `sets=` with its
+/// margin sets and whether margins go through it, `asked=` with its bits 3 to 8 and row numbers 8 to 14,
+/// `line=` with whether it has a first baseline, and which.
 /// Boxes that are not laid have a line `other=` with their order, bits and row numbers 0 to 2.
 pub fn lines(outcome: &Outcome) -> Vec<String> {
     match outcome {
@@ -150,7 +151,8 @@ fn row_lines(node: usize, row: &Row) -> Vec<String> {
     vec![
         format!("box={node},{order},{}", list(&numbers[..4])),
         format!("sets={node},{},{}", list(&numbers[4..8]), (bits & THROUGH != 0) as u8),
-        format!("asked={node},{},{}", bits >> 3, list(&numbers[8..15])),
+        format!("asked={node},{},{}", bits >> 3 & 63, list(&numbers[8..15])),
+        format!("line={node},{},{}", (bits & LINED != 0) as u8, list(&numbers[15..])),
     ]
 }
 
