@@ -82,8 +82,9 @@ static float *number(uint32_t i, unsigned f) {
 
 /* Everything of a node but its size. */
 static void dress(uint32_t i) {
-    uint32_t size = words[MEARRASOT_WORDS * i], style = draw() & 0x1fccu & (draw() | 0x8u);
+    uint32_t size = words[MEARRASOT_WORDS * i], style = draw() & 0x1fccu;
     unsigned f, tall = 0;
+    style &= draw() | 0x8u; /* one draw in a statement: C leaves the order of two open */
     style |= below(4) == 0 ? (1 + below(2)) << 4 : 0;
     style |= i == 0 ? 0u : below(16) == 0 ? MEARRASOT_HIDDEN : size == 1 && below(8) ? MEARRASOT_LEAF : MEARRASOT_BLOCK;
     mearrasot_node(words, numbers, n, i, size, style);
@@ -218,12 +219,13 @@ static void coarse_page(const struct mearrasot_page *p) {
 
 static void damaged(const struct mearrasot_page *p) {
     const struct mearrasot_question q = ask();
-    uint32_t bit, change = below(3);
+    uint32_t bit, cut, count, change = below(3);
     float size[2];
     memcpy(kept_words, words, sizeof words);
     memcpy(kept_numbers, numbers, sizeof numbers);
     if (change == 0) {
-        words[below(MEARRASOT_WORDS * n)] ^= 1u << below(32);
+        uint32_t at = below(MEARRASOT_WORDS * n);
+        words[at] ^= 1u << below(32);
     } else {
         uint32_t at = below(MEARRASOT_NUMBERS * n);
         float *x = number(at / MEARRASOT_NUMBERS, at % MEARRASOT_NUMBERS);
@@ -232,9 +234,11 @@ static void damaged(const struct mearrasot_page *p) {
         memcpy(x, &bit, 4);
     }
     put_all(mearrasot_layout_page(p, q));
-    put_all(mearrasot_relayout(words, MEARRASOT_WORDS * n - below(2), numbers, MEARRASOT_NUMBERS * n, rows,
+    cut = below(2);
+    count = below(3);
+    put_all(mearrasot_relayout(words, MEARRASOT_WORDS * n - cut, numbers, MEARRASOT_NUMBERS * n, rows,
                                MEARRASOT_ROW * n, marks, MEARRASOT_MARKS * n, pairs, MEARRASOT_PAIR * n, triples,
-                               MEARRASOT_TRIPLE * n, words, below(3), q.known_width, q.known_height, q.parent_width,
+                               MEARRASOT_TRIPLE * n, words, count, q.known_width, q.known_height, q.parent_width,
                                q.available, q.how));
     put_answer(mearrasot_size_page(p, size, q));
     put_numbers(size, 2);

@@ -17,7 +17,7 @@ use Rattle.tree.specs.Tree.{Tree, Forest, node, countT, countF, flatT, flatF, m
 use Rattle.tree.proofs.Laws.{countT-node, flatT-node, mapT-node, onRoot-node}
 use Rattle.tree.proofs.Lists.{tail-part, tail-put}
 use Rattle.style.specs.Flow.{flowOf}
-use Rattle.steps.specs.Stack.{itemOf, childInput, questionTo, placeOf, stepped, lineOf, edgesOf, pastAside, pastHidden}
+use Rattle.steps.specs.Stack.{itemOf, questionTo, placeOf, stepped, lineOf, edgesOf, pastAside, pastHidden}
 use Rattle.steps.specs.Row.{Row, rowNumbers, rowWords, hiddenRow, asideRow, laidRow, putAt, noted, probeOf, outputIn}
 use Rattle.steps.specs.Page.{Cell, staying, anyT}
 use Rattle.steps.specs.Kept.{Laid, finalStands, editedNode, kept, keep, keptRow, zerosT, zerosF, fixF}
@@ -29,6 +29,9 @@ use Rattle.steps.specs.declared.LayoutOutput.{LayoutOutput}
 use Rattle.steps.specs.declared.Frame.{Frame}
 use Rattle.steps.specs.declared.Cursor.{Cursor}
 use Rattle.steps.specs.declared.BlockItem.{BlockItem}
+use Rattle.steps.specs.declared.Sizing.{Sizing}
+use Rattle.stacking.specs.Footing.{footingOf, itemWith, with-footing}
+use Rattle.stacking.specs.declared.Footing.{Footing}
 use Rattle.steps.proofs.Clauses.{askT-kept, askT-new}
 use Rattle.steps.proofs.Codes.{same-code}
 use Rattle.walks.specs.Tables.{oldNumbers, oldWords, newNumbers, newWords, TabledT, IsBelow, KeptBelow}
@@ -39,11 +42,6 @@ use Rattle.rows.specs.Store.{Becomes, Reads}
 use Rattle.compute.specs.Contract.{IsTree, placedIn, placedBy, placedT, AreT, LaidT, AskedT, PlacedT, Stands, LeafPut}
 use Rattle.compute.proofs.Shape.{sizes-mapF, same-countF}
 use Rattle.compute.proofs.OneTree.{flat-leaf, root-style}
-
--- a question made of a child's item is step J's
-pub asks : (f : Frame) (s : Style) (i : BlockItem) (q : LayoutInput) → q ≡ childInput f s i → i ≡ itemOf f s → q ≡ questionTo f s
-unfolding questionTo
-asks f s i q h k = h ∙ ap (childInput f s) k
 
 kept-of : (l : Cell) (ks : Forest Cell) (q : LayoutInput) → kept (mapT staying (node l ks)) q ≡ (not (anyT editedNode (mapT staying (node l ks))) && finalStands q (l .old))
 unfolding kept rootT staying mapT
@@ -133,10 +131,10 @@ module _ (ws : List ℕ) (xs rs : List Float) (ms es : List ℕ) (b : ℕ) (f : 
       let p = h r (flatF newNumbers us) (flatF newWords us) (a .0 ∙ flatT-node newNumbers r us) (a .1 ∙ flatT-node newWords r us) in
       rw onRoot-node (p .0 ∙ sym (flatT-node newNumbers (g r) us), p .1 ∙ sym (flatT-node newWords (g r) us))
 
-  pub in-placed : (end : Cursor) (q : LayoutInput) (o : LayoutOutput) (i : BlockItem) (p : Point) (rs1 rs′ : List Float) (ms1 ms′ : List ℕ) → flow ≡ In → q ≡ questionTo f s → AskedT ws xs rs ms es b q o rs1 ms1 → i ≡ itemOf f s
+  item-placed : (end : Cursor) (q : LayoutInput) (o : LayoutOutput) (i : BlockItem) (p : Point) (rs1 rs′ : List Float) (ms1 ms′ : List ℕ) → flow ≡ In → q ≡ questionTo f s → AskedT ws xs rs ms es b q o rs1 ms1 → i ≡ itemOf f s
       → p ≡ placeOf f c i o → Becomes rs1 ms1 rs′ ms′ (putAt p (c .shown .0)) → end ≡ stepped f c i o → PlacedT ws xs rs ms es b f c end rs′ ms′
   unfolding placedBy placedIn
-  in-placed end q o i p rs1 rs′ ms1 ms′ e hq ha hi hp hb he (node l ks) h =
+  item-placed end q o i p rs1 rs′ ms1 ms′ e hq ha hi hp hb he (node l ks) h =
       let t = mapT staying (node l ks) in
       let st = style-of l ks h in
       let a = ha (node l ks) h in
@@ -147,6 +145,14 @@ module _ (ws : List ℕ) (xs rs : List Float) (ms es : List ℕ) (b : ℕ) (f : 
       let z = root-put (putAt p (c .shown .0)) rs1 rs′ ms1 ms′ (askT t q .rows) (a .1) hb in
       let y : onRoot (putAt p (c .shown .0)) (askT t q .rows) ≡ placedIn f c t (askT t (questionTo f (rootT t .site .style))) .rows = rw (pp, qq) refl in
       rw (placed-of l ks In h e) (he ∙ rw (ii, oo) refl, (z .0 ∙ ap (flatT newNumbers) y, z .1 ∙ ap (flatT newWords) y))
+
+  -- the same with what is held of the item
+  pub in-placed : (end : Cursor) (q : LayoutInput) (o : LayoutOutput) (g : Footing) (p : Point) (rs1 rs′ : List Float) (ms1 ms′ : List ℕ) → flow ≡ In → q ≡ questionTo f s → AskedT ws xs rs ms es b q o rs1 ms1 → g ≡ footingOf (itemOf f s)
+      → ((z : Sizing) → p ≡ placeOf f c (itemWith z g) o) → Becomes rs1 ms1 rs′ ms′ (putAt p (c .shown .0)) → ((z : Sizing) → end ≡ stepped f c (itemWith z g) o) → PlacedT ws xs rs ms es b f c end rs′ ms′
+  in-placed end q o g p rs1 rs′ ms1 ms′ e hq ha hg hp hb he =
+      let i = itemOf f s in
+      let w = with-footing i g hg in
+      item-placed end q o i p rs1 rs′ ms1 ms′ e hq ha refl (hp (i .sizing) ∙ ap (λ (j : BlockItem). placeOf f c j o) w) hb (he (i .sizing) ∙ ap (λ (j : BlockItem). stepped f c j o) w)
 
 -- a leaf's row, and what is cleared after it
 clear-rest : {A : Type 0} (x z l nr : List A) (v : A) (k n : ℕ) → length x ≡ k → l ≡ x ++ z → length l ≡ n → nr ≡ replicate (length (take (length l - k) (drop k l))) v → putMid k (length l - k) l nr ≡ x ++ replicate (n - k) v

@@ -57,15 +57,6 @@ pub root-style : (l : Cell) (ks : Forest Cell) → rootT (mapT staying (node l k
 unfolding rootT staying
 root-style l ks = rw (mapT-node staying l ks)
 
--- kind and table of a style are those of its word and its numbers
-pub kind-is : (ws : List ℕ) (xs : List Float) (b : ℕ) → kindOf (codeAt (wordAt ws 0 1) 0) ≡ styleAt ws 0 xs b .kind
-unfolding styleAt
-kind-is ws xs b = refl
-
-pub measure-is : (ws : List ℕ) (xs : List Float) (b : ℕ) → measureAt ws 0 xs b ≡ styleAt ws 0 xs b .measure
-unfolding styleAt
-measure-is ws xs b = refl
-
 -- a leaf
 leaf-out : (l : Node) (q : LayoutInput) (ks : Forest Node) → leafLaid l q ks .out ≡ leafOutput (l .site .style .measure) q
 unfolding leafLaid

@@ -1,8 +1,5 @@
 // The final pass, in place: containers and stacks call each other (the crate's src/compute/block.rs).
 ghost use mathlib.Core.Path.{_≡_};
-ghost use Rattle.style.specs.Codes.{codeAt, kindOf};
-ghost use Rattle.style.specs.Flow.{isLeaf};
-ghost use Rattle.style.specs.Style.{wordAt};
 ghost use Rattle.rows.specs.Store.{OneRow};
 ghost use Rattle.steps.specs.Stack.{Counts};
 ghost use Rattle.walks.specs.Tables.{IsRows};
@@ -46,13 +43,6 @@ fn stands(rows: &[f32], marks: &[u32], edits: &[u32], base: usize, n: usize, q: 
     rows::final_stands(rows, marks, q)
 }
 
-// Is the first node a leaf?
-fn is_leaf(words: &[u32]) -> bool
-    ensures { λ r. ⌜ r ≡ isLeaf (kindOf (codeAt (wordAt (now (words .entry)) 0 1) 0)) ⌝ }
-{
-    style::is_leaf(style::kind_of(style::word(words, 0, 1)))
-}
-
 // One container: steps A to N.
 pub fn compute_block_layout(
     words: &[u32],
@@ -68,7 +58,7 @@ pub fn compute_block_layout(
     requires { ⌜ IsTree (now words) (now numbers) (now rows) (now marks) (now edits) base depth ⌝ }
     ensures { λ r. ⌜ LaidT (now (words .entry)) (now (numbers .entry)) (now (rows .entry)) (now (marks .entry)) (now (edits .entry)) base q found r (now (rows .exit)) (now (marks .exit)) ⌝ }
 {
-    if is_leaf(words) {
+    if reader::is_leaf(words) {
         let o = heights::leaf_at(words, numbers, base, q);
         put_leaf(rows, marks, q, o);
         return o;
@@ -109,7 +99,7 @@ fn perform_final_layout_on_in_flow_children(
     let mut c = stacking::start_of(f);
     let mut a = 0usize;
     while 4 * a < words.len() {
-        let e = a + style::word(words, a, 0) as usize;
+        let e = a + style::word_in(words, a, 0) as usize;
         let a4 = 4 * a;
         let e4 = 4 * e;
         let a16 = 16 * a;
@@ -148,8 +138,7 @@ fn perform_child_layout(
     requires counts { ⌜ Counts c ⌝ }
     ensures { λ r. ⌜ PlacedT (now (words .entry)) (now (numbers .entry)) (now (rows .entry)) (now (marks .entry)) (now (edits .entry)) base f c r (now (rows .exit)) (now (marks .exit)) ⌝ }
 {
-    let s = style::style_at(words, 0, numbers, base);
-    let flow = style::flow_of(s);
+    let flow = reader::flow(words);
     match flow {
         Flow::Gone => {
             rows::put_hidden(rows, marks, c.count);
@@ -163,8 +152,9 @@ fn perform_child_layout(
             stacking::past_aside(c)
         }
         Flow::In => {
-            let i = stacking::item_of(f, s);
-            let q = stacking::child_input(f, s, i);
+            let plan = stacking::item::plan_at(words, numbers, base, f);
+            let q = plan.input;
+            let i = plan.footing;
             let o = compute_child_layout(words, numbers, rows, marks, edits, base, depth, q);
             let p = stacking::place_of(f, c, i, o);
             let shown = c.shown;

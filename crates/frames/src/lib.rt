@@ -1,19 +1,25 @@
 // Step I: a container's frame (the crate's compute_inner up to its items).
 ghost use mathlib.Core.Path.{_≡_};
 ghost use Rattle.style.specs.Flow.{isIn};
-ghost use Rattle.style.specs.Style.{styleAt};
+ghost use mathlib.Core.List.{List};
+ghost use Prim.Native.Nat.{_<_, _≤_};
+ghost use lib.ListN.{length};
+ghost use lib.Ieee.{Float};
+ghost use Rattle.style.specs.Style.{planeOf, styleAt};
+ghost use Rattle.style.specs.declared.Style.{Style};
+ghost use Rattle.reader.specs.Reader.{Reads, styleIn};
 ghost use Rattle.steps.specs.Context.{clips, isNormal, newContext, plainBlock};
 ghost use Rattle.steps.specs.Through.{openBox, hollowBox};
 ghost use Rattle.steps.specs.HeightBasis.{definiteOf, basisBelow};
 ghost use Rattle.steps.specs.Edges.{adjoins, ownEndOf, stepI, frameOf};
 use geometry::Rect;
+use reader::Reader;
 use steps::Frame;
 use steps::LayoutInput;
 use steps::Sizing;
 use style::AlignContent;
 use style::Flow;
 use style::Overflow;
-use style::Style;
 use util::OptionF32;
 use util::OptionSize;
 
@@ -43,14 +49,14 @@ fn is_align_normal(a: AlignContent) -> bool
     }
 }
 
-// Step I: a new context.
-pub fn establishes_new_bfc(s: Style) -> bool
-    ensures { λ r. ⌜ r ≡ newContext s ⌝ }
+// Step I: a new context. The style word tells.
+fn establishes_new_bfc(r: Reader) -> bool
+    ensures { λ b. ⌜ ((xs : List Float) → b ≡ newContext (styleIn r xs)) ⌝ }
 {
-    let o = s.overflow;
+    let o = style::overflow_of(r.style);
     let ox = o.x;
     let oy = o.y;
-    let align = s.align;
+    let align = style::align_of(r.style);
     if is_clipping(ox) {
         return true;
     }
@@ -58,7 +64,7 @@ pub fn establishes_new_bfc(s: Style) -> bool
         return true;
     }
     if is_align_normal(align) {
-        return s.contained;
+        return style::flag(r.style, 12);
     }
     true
 }
@@ -74,24 +80,25 @@ fn is_in(f: Flow) -> bool
 }
 
 // Step I: an in-flow block without new context.
-pub fn is_plain_block(s: Style) -> bool
-    ensures { λ r. ⌜ r ≡ plainBlock s ⌝ }
+pub fn is_plain_block(r: Reader) -> bool
+    ensures { λ b. ⌜ ((xs : List Float) → b ≡ plainBlock (styleIn r xs)) ⌝ }
 {
-    let kind = s.kind;
-    if is_in(style::flow_of(s)) {
+    let kind = style::kind_of(r.style);
+    if is_in(style::flow_at(r.style)) {
         if style::is_leaf(kind) {
             return false;
         }
-        return !establishes_new_bfc(s);
+        return !establishes_new_bfc(r);
     }
     false
 }
 
-fn edge_adjoins(s: Style, flag: bool, padding: f32, border: f32) -> bool
-    ensures { λ r. ⌜ r ≡ adjoins s flag padding border ⌝ }
+// An edge of a box that is a plain block or not.
+fn edge_adjoins(plain: bool, flag: bool, padding: f32, border: f32) -> bool
+    ensures { λ r. ⌜ ((s : Style) → plainBlock s ≡ plain → r ≡ adjoins s flag padding border) ⌝ }
 {
     if flag {
-        if is_plain_block(s) {
+        if plain {
             if padding == 0.0 {
                 return border == 0.0;
             }
@@ -116,11 +123,11 @@ fn is_open_box(padding: Rect, border: Rect) -> bool
 }
 
 // May the box be through, but for its height and its children?
-fn is_hollow(s: Style, nested: bool, padding: Rect, border: Rect) -> bool
-    ensures { λ r. ⌜ r ≡ hollowBox s nested padding border ⌝ }
+fn is_hollow(plain: bool, nested: bool, padding: Rect, border: Rect) -> bool
+    ensures { λ r. ⌜ ((s : Style) → plainBlock s ≡ plain → r ≡ hollowBox s nested padding border) ⌝ }
 {
     if nested {
-        if is_plain_block(s) {
+        if plain {
             return is_open_box(padding, border);
         }
     }
@@ -128,10 +135,10 @@ fn is_hollow(s: Style, nested: bool, padding: Rect, border: Rect) -> bool
 }
 
 // Own end: the end adjoins and step A gave no height.
-fn own_end(s: Style, flag: bool, padding: f32, border: f32, height: OptionF32) -> bool
-    ensures { λ r. ⌜ r ≡ ownEndOf s flag padding border height ⌝ }
+fn own_end(plain: bool, flag: bool, padding: f32, border: f32, height: OptionF32) -> bool
+    ensures { λ r. ⌜ ((s : Style) → plainBlock s ≡ plain → r ≡ ownEndOf s flag padding border height) ⌝ }
 {
-    if edge_adjoins(s, flag, padding, border) {
+    if edge_adjoins(plain, flag, padding, border) {
         return !height.is_some();
     }
     false
@@ -160,8 +167,16 @@ fn basis_below(q: LayoutInput, known: OptionSize, inset: Rect) -> OptionF32
     definite_of(q, height).maybe_sub(inset.vertical_axis_sum())
 }
 
-fn framed_by(s: Style, q: LayoutInput, z: Sizing, known: OptionSize, width: f32) -> Frame
-    ensures { λ r. ⌜ r ≡ stepI s q z known width ⌝ }
+fn framed_by(
+    r: Reader,
+    numbers: &[f32],
+    q: LayoutInput,
+    z: Sizing,
+    known: OptionSize,
+    width: f32,
+) -> Frame
+    requires { ⌜ Reads r (now numbers) ⌝ }
+    ensures { λ f. ⌜ f ≡ stepI (styleIn r (now (numbers .entry))) q z known width ⌝ }
 {
     let padding = z.padding;
     let border = z.border;
@@ -173,7 +188,8 @@ fn framed_by(s: Style, q: LayoutInput, z: Sizing, known: OptionSize, width: f32)
     let sh = size.height;
     let lo = min.height;
     let hi = max.height;
-    let inset = sizing::content_box_inset(s, both);
+    let plain = is_plain_block(r);
+    let inset = sizing::content_box_inset(r, numbers, both);
     Frame {
         width,
         height,
@@ -182,29 +198,31 @@ fn framed_by(s: Style, q: LayoutInput, z: Sizing, known: OptionSize, width: f32)
         minHeight: lo,
         maxHeight: hi,
         heightBasis: basis_below(q, known, inset),
-        ownStart: edge_adjoins(s, q.collapseStart, padding.top, border.top),
-        ownEnd: own_end(s, q.collapseEnd, padding.bottom, border.bottom, sh),
-        hollow: is_hollow(s, q.nested, padding, border),
-        rtl: s.rtl,
+        ownStart: edge_adjoins(plain, q.collapseStart, padding.top, border.top),
+        ownEnd: own_end(plain, q.collapseEnd, padding.bottom, border.bottom, sh),
+        hollow: is_hollow(plain, q.nested, padding, border),
+        rtl: style::flag(r.style, 3),
     }
 }
 
 // Steps A, B, D, E and I.
-pub fn frame_of(s: Style, q: LayoutInput, found: f32) -> Frame
-    ensures { λ r. ⌜ r ≡ frameOf s q found ⌝ }
+fn frame_of(r: Reader, numbers: &[f32], q: LayoutInput, found: f32) -> Frame
+    requires { ⌜ Reads r (now numbers) ⌝ }
+    ensures { λ f. ⌜ f ≡ frameOf (styleIn r (now (numbers .entry))) q found ⌝ }
 {
     let parent = q.parent;
     let asked = q.known;
     let basis = q.basis;
-    let z = sizing::sizing_in(s, parent, basis);
-    let known = sizing::known_dimensions(s, z, asked);
+    let z = sizing::sizing_in(r, numbers, parent, basis);
+    let known = sizing::known_dimensions(reader::ratio(r, numbers), z, asked);
     let w = known.width;
-    framed_by(s, q, z, known, w.unwrap_or(found))
+    framed_by(r, numbers, q, z, known, w.unwrap_or(found))
 }
 
-// The frame of the first node here. Its style ends with this call, and is not held while children are laid out.
+// The frame of the first node here, whose style is read part by part.
 pub fn frame_at(words: &[u32], numbers: &[f32], base: usize, q: LayoutInput, found: f32) -> Frame
+    requires { ⌜ (4 ≤ length (now words)) × (base < planeOf (now numbers)) ⌝ }
     ensures { λ r. ⌜ r ≡ frameOf (styleAt (now (words .entry)) 0 (now (numbers .entry)) base) q found ⌝ }
 {
-    frame_of(style::style_at(words, 0, numbers, base), q, found)
+    frame_of(reader::reader_at(words, numbers, base), numbers, q, found)
 }

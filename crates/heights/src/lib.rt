@@ -1,7 +1,12 @@
 // Steps K to N: a container's height and its answer (the end of the crate's compute_inner); a leaf's answer.
 ghost use mathlib.Core.Path.{_≡_};
 ghost use mathlib.Core.Bool.{_||_};
-ghost use Rattle.style.specs.Style.{measureAt, styleAt};
+ghost use Prim.Native.Nat.{_<_, _≤_};
+ghost use lib.ListN.{length};
+ghost use Rattle.style.specs.Style.{planeOf, measureAt, styleAt};
+ghost use Rattle.style.specs.declared.Style.{Style};
+ghost use Rattle.steps.specs.declared.LayoutInput.{LayoutInput};
+ghost use Rattle.heights.specs.Tail.{tailOf};
 ghost use Rattle.steps.specs.Stack.{atTop};
 ghost use Rattle.steps.specs.Baseline.{shifted, blockBaseline};
 ghost use Rattle.steps.specs.Through.{stepN, passedOut, outputOf, finished, leafOutput};
@@ -13,9 +18,18 @@ use steps::Finished;
 use steps::Frame;
 use steps::LayoutInput;
 use steps::LayoutOutput;
+use style::AlignContent;
 use style::Measure;
-use style::Style;
 use util::OptionF32;
+
+// What steps M and N ask of a style, with its margins resolved.
+pub struct Tail {
+    pub align: AlignContent,
+    pub safe: bool,
+    pub contained: bool,
+    pub top: f32,
+    pub bottom: f32,
+}
 
 fn ends_or_tops(f: Frame, c: Cursor) -> bool
     ensures { λ r. ⌜ r ≡ (f .ownEnd || atTop f c) ⌝ }
@@ -77,11 +91,11 @@ fn own_end(f: Frame, height: f32) -> bool
 }
 
 // Step M.
-fn shift_of(s: Style, f: Frame, height: f32, content: f32) -> OptionF32
-    ensures { λ r. ⌜ r ≡ stepM s f height content ⌝ }
+fn shift_of(t: Tail, f: Frame, height: f32, content: f32) -> OptionF32
+    ensures { λ r. ⌜ ((s : Style) (q : LayoutInput) → t ≡ tailOf s q → r ≡ stepM s f height content) ⌝ }
 {
-    let align = s.align;
-    let safe = s.safe;
+    let align = t.align;
+    let safe = t.safe;
     let inset = f.inset;
     let down = inset.vertical_axis_sum();
     alignment::compute_alignment_offset(align, safe, (height - down) - (content - down))
@@ -120,30 +134,19 @@ fn shifted(b: OptionF32, shift: OptionF32) -> OptionF32
 }
 
 // A container's baseline, of the first one found in its stack.
-fn block_baseline(s: Style, b: OptionF32, shift: OptionF32) -> OptionF32
-    ensures { λ r. ⌜ r ≡ blockBaseline s b shift ⌝ }
+fn block_baseline(t: Tail, b: OptionF32, shift: OptionF32) -> OptionF32
+    ensures { λ r. ⌜ ((s : Style) (q : LayoutInput) → t ≡ tailOf s q → r ≡ blockBaseline s b shift) ⌝ }
 {
-    if s.contained {
+    if t.contained {
         OptionF32::None
     } else {
         shifted(b, shift)
     }
 }
 
-fn output_of(
-    s: Style,
-    q: LayoutInput,
-    f: Frame,
-    c: Cursor,
-    height: f32,
-    shift: OptionF32,
-) -> LayoutOutput
-    ensures { λ r. ⌜ r ≡ outputOf s q f c height shift ⌝ }
+fn output_of(t: Tail, f: Frame, c: Cursor, height: f32, shift: OptionF32) -> LayoutOutput
+    ensures { λ r. ⌜ ((s : Style) (q : LayoutInput) → t ≡ tailOf s q → r ≡ outputOf s q f c height shift) ⌝ }
 {
-    let margin = s.margin;
-    let mt = margin.top;
-    let mb = margin.bottom;
-    let parent = q.parent;
     let top = c.top;
     let strut = c.strut;
     let baseline = c.baseline;
@@ -153,27 +156,39 @@ fn output_of(
     };
     LayoutOutput {
         size,
-        top: passed_out(f.ownStart, top, length::resolve_or_zero(mt, parent)),
-        bottom: passed_out(
-            own_end(f, height),
-            strut,
-            length::resolve_or_zero(mb, parent),
-        ),
+        top: passed_out(f.ownStart, top, t.top),
+        bottom: passed_out(own_end(f, height), strut, t.bottom),
         through: can_be_collapsed_through(f, c, height),
-        baseline: block_baseline(s, baseline, shift),
+        baseline: block_baseline(t, baseline, shift),
     }
 }
 
 // Steps K to N.
-pub fn finish(s: Style, q: LayoutInput, f: Frame, c: Cursor) -> Finished
-    ensures { λ r. ⌜ r ≡ finished s q f c ⌝ }
+fn finish(t: Tail, f: Frame, c: Cursor) -> Finished
+    ensures { λ r. ⌜ ((s : Style) (q : LayoutInput) → t ≡ tailOf s q → r ≡ finished s q f c) ⌝ }
 {
     let content = content_height(f, c);
     let height = outer_height(f, content);
-    let shift = shift_of(s, f, height, content);
+    let shift = shift_of(t, f, height, content);
     Finished {
-        output: output_of(s, q, f, c, height, shift),
+        output: output_of(t, f, c, height, shift),
         shift,
+    }
+}
+
+// The tail of the first node here.
+fn tail_at(words: &[u32], numbers: &[f32], base: usize, q: LayoutInput) -> Tail
+    requires { ⌜ (4 ≤ length (now words)) × (base < planeOf (now numbers)) ⌝ }
+    ensures { λ r. ⌜ r ≡ tailOf (styleAt (now (words .entry)) 0 (now (numbers .entry)) base) q ⌝ }
+{
+    let r = reader::reader_at(words, numbers, base);
+    let parent = q.parent;
+    Tail {
+        align: style::align_of(r.style),
+        safe: style::flag(r.style, 17),
+        contained: style::flag(r.style, 12),
+        top: length::resolve_or_zero(reader::margin_top(r, numbers), parent),
+        bottom: length::resolve_or_zero(reader::margin_bottom(r, numbers), parent),
     }
 }
 
@@ -186,9 +201,10 @@ pub fn finish_at(
     f: Frame,
     c: Cursor,
 ) -> Finished
+    requires { ⌜ (4 ≤ length (now words)) × (base < planeOf (now numbers)) ⌝ }
     ensures { λ r. ⌜ r ≡ finished (styleAt (now (words .entry)) 0 (now (numbers .entry)) base) q f c ⌝ }
 {
-    finish(style::style_at(words, 0, numbers, base), q, f, c)
+    finish(tail_at(words, numbers, base, q), f, c)
 }
 
 // A leaf's answer.

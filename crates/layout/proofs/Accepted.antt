@@ -25,6 +25,7 @@ use Rattle.layout.specs.Public.{plainSite, RoomOf}
 pub record Passes (ws : List ℕ) (xs rs : List Float) (ms cw : List ℕ) (cx : List Float) : Type 0 where
   pub good : GoodTable ws
   pub words-long : length ws ≡ 4 * nodesIn ws
+  pub numbers-long : length xs ≡ 28 * nodesIn ws
   pub rows-long : length rs ≡ 16 * nodesIn ws
   pub marks-long : length ms ≡ 2 * nodesIn ws
   pub room : needed (pageOf ws xs []) ≤ min (length cw / 2) (length cx / 3)
@@ -48,6 +49,7 @@ passes ws xs rs ms cw cx q e =
     record {
       good = good-table ws xs q t (then-pass-1 (pageTested ws xs q) _ r);
       words-long = sized ws xs t .words;
+      numbers-long = sized ws xs t .numbers;
       rows-long = f .0;
       marks-long = f .1;
       room = room-fits ws xs cw cx (then-pass-2 (pageTested ws xs q) _ r);

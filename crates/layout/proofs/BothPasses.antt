@@ -99,11 +99,11 @@ module _ (ws : List ℕ) (xs rs : List Float) (ms es : List ℕ) (q : LayoutInpu
 
 -- what the passes ask for
 pub tree-before : (ws : List ℕ) (xs rs : List Float) (ms es : List ℕ) (pairs : List ℕ) (triples : List Float) → IsCells ws xs rs ms es pairs triples → probing.IsTree ws xs rs ms es 0 32
-tree-before ws xs rs ms es pairs triples h = record { tree = h .tree; tabled = h .tabled; deep = h .deep; fit = let f = h .fit in omega (arith, f) }
+tree-before ws xs rs ms es pairs triples h = record { tree = h .tree; tabled = h .tabled; deep = h .deep; fit = let f = h .fit in omega (arith, f); reach = let f = h .reach in omega (arith, f) }
 
 pub tree-between : (ws : List ℕ) (xs rs : List Float) (ms es : List ℕ) (pairs : List ℕ) (triples : List Float) (q : LayoutInput) (found : Float) (rs1 : List Float) (ms1 : List ℕ) → IsCells ws xs rs ms es pairs triples
     → probing.PassedT ws xs rs ms es q found rs1 ms1 → compute.IsTree ws xs rs1 ms1 es 0 32
 tree-between ws xs rs ms es pairs triples q found rs1 ms1 h p =
     let f = h .fit in
     let n = left-count (h .tree) q in
-    record { tree = leftBy (h .tree) q; tabled = left-table ws xs rs ms es q found rs1 ms1 p (h .tree) (h .tabled); deep = rw (left-depth (h .tree) q) (h .deep); fit = omega (arith, f, n) }
+    record { tree = leftBy (h .tree) q; tabled = left-table ws xs rs ms es q found rs1 ms1 p (h .tree) (h .tabled); deep = rw (left-depth (h .tree) q) (h .deep); fit = omega (arith, f, n); reach = omega (arith, h .reach, n) }

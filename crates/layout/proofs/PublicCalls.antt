@@ -58,7 +58,7 @@ module _ (ws : List ℕ) (xs rs : List Float) (ms cw : List ℕ) (cx : List Floa
   blank-cells =
       let f = p .good .few in
       let n = blank-count in
-      record { tree = mapT blank page; tabled = blank-tabled; deep = rw (depth-mapT blank page) (good-page ws (p .good) xs [] .shallow); fit = omega (arith, f, n); room = blank-room }
+      record { tree = mapT blank page; tabled = blank-tabled; deep = rw (depth-mapT blank page) (good-page ws (p .good) xs [] .shallow); fit = omega (arith, f, n); reach = omega (arith, p .numbers-long, n); room = blank-room }
 
   pub blank-reply : (q : LayoutInput) (a : Answer) (rs2 : List Float) (ms2 : List ℕ) (cw2 : List ℕ) (cx2 : List Float)
       → Relays ws xs (replicate (length rs) zeroF) (replicate (length ms) 0) [] cw cx q a rs2 ms2 cw2 cx2 → Replied (replied (nodesIn ws) (fresh page q .rows) rs ms cw cx) a rs2 ms2 cw2 cx2
@@ -102,7 +102,7 @@ module _ (ws : List ℕ) (xs rs : List Float) (ms cw : List ℕ) (cx : List Floa
   old-cells =
       let f = p .good .few in
       let n = cells-count in
-      record { tree = cells; tabled = cells-tabled; deep = good-cells ws (p .good) xs rs ms es .shallow; fit = omega (arith, f, n); room = cells-room }
+      record { tree = cells; tabled = cells-tabled; deep = good-cells ws (p .good) xs rs ms es .shallow; fit = omega (arith, f, n); reach = omega (arith, p .numbers-long, n); room = cells-room }
 
   pub old-reply : (q : LayoutInput) (a : Answer) (rs2 : List Float) (ms2 : List ℕ) (cw2 : List ℕ) (cx2 : List Float) → Relays ws xs rs ms es cw cx q a rs2 ms2 cw2 cx2
       → Replied (replied (nodesIn ws) (relaid cells q .rows) rs ms cw cx) a rs2 ms2 cw2 cx2

@@ -5,6 +5,7 @@ use mathlib.Core.List.{List}
 use Prim.Native.Nat.{ℕ, _+_, _*_, _≤_}
 use lib.ListN.{length}
 use lib.Ieee.{Float}
+use Rattle.style.specs.Style.{planeOf}
 use Rattle.tree.specs.Tree.{Tree, countT, depthT, mapT}
 use Rattle.steps.specs.Row.{Row}
 use Rattle.steps.specs.Page.{Site, Cell}
@@ -52,6 +53,7 @@ pub record IsCells (ws : List ℕ) (xs rs : List Float) (ms es : List ℕ) (pair
   pub tabled : TabledT ws xs rs ms es 0 tree
   pub deep : depthT tree ≤ 32
   pub fit : countT tree ≤ 1024
+  pub reach : countT tree ≤ planeOf xs
   pub room : RoomOf tree pairs triples
 
 -- a relayout of every such page

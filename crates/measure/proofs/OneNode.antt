@@ -31,6 +31,9 @@ use Rattle.steps.specs.declared.ProbeInput.{ProbeInput}
 use Rattle.steps.specs.declared.LayoutInput.{LayoutInput}
 use Rattle.steps.specs.declared.LayoutOutput.{LayoutOutput}
 use Rattle.steps.specs.declared.BlockItem.{BlockItem}
+use Rattle.steps.specs.declared.Sizing.{Sizing}
+use Rattle.stacking.specs.Footing.{footingOf, itemWith, with-footing}
+use Rattle.stacking.specs.declared.Footing.{Footing}
 use Rattle.steps.specs.declared.Finished.{Finished}
 use Rattle.steps.specs.declared.Frame.{Frame}
 use Rattle.steps.specs.declared.Cursor.{Cursor}
@@ -119,13 +122,19 @@ module _ (ws : List ℕ) (xs : List Float) (b : ℕ) (s : Style) (hs : s ≡ sty
     unfolding pastBy
     out-passed r e hr (node l ks) h = hr ∙ sym (past-of l ks Out h e)
 
-    pub in-passed : (q : LayoutInput) (o : LayoutOutput) (i : BlockItem) (r : Cursor) → flow ≡ In → q ≡ questionTo f s → Measured ws xs b q zeroF o → i ≡ itemOf f s → r ≡ stepped f c i o → Passed ws xs b f c r
+    item-passed : (q : LayoutInput) (o : LayoutOutput) (i : BlockItem) (r : Cursor) → flow ≡ In → q ≡ questionTo f s → Measured ws xs b q zeroF o → i ≡ itemOf f s → r ≡ stepped f c i o → Passed ws xs b f c r
     unfolding pastBy
-    in-passed q o i r e hq ho hi hr (node l ks) h =
+    item-passed q o i r e hq ho hi hr (node l ks) h =
         let t : Tree Site = node l ks in
         let st = sym (root-of l ks h) in
         let oo : o ≡ sizeT t (questionTo f (rootT t .style)) zeroF = ho t h ∙ ap (λ (z : LayoutInput). sizeT t z zeroF) (hq ∙ ap (questionTo f) st) in
         hr ∙ ap (λ (z : BlockItem). stepped f c z o) (hi ∙ ap (itemOf f) st) ∙ ap (stepped f c (itemOf f (rootT t .style))) oo ∙ sym (past-of l ks In h e)
+
+    -- the same with what is held of the item
+    pub in-passed : (q : LayoutInput) (o : LayoutOutput) (g : Footing) (r : Cursor) → flow ≡ In → q ≡ questionTo f s → Measured ws xs b q zeroF o → g ≡ footingOf (itemOf f s) → ((z : Sizing) → r ≡ stepped f c (itemWith z g) o) → Passed ws xs b f c r
+    in-passed q o g r e hq ho hg hr =
+        let i = itemOf f s in
+        item-passed q o i r e hq ho refl (hr (i .sizing) ∙ ap (λ (j : BlockItem). stepped f c j o) (with-footing i g hg))
 
   -- ---- the width pass at the root
   root-found : (l : Site) (ks : Forest Site) (q : LayoutInput) (o : OptionF32) → foundT (node l ks) q o ≡ foundBy (l .style) (q .parent) o (widthF ks (spaceIn (l .style) (q .parent) (q .available)) zeroF)

@@ -118,7 +118,7 @@ module _ (ws : List ℕ) (xs : List Float) (q : LayoutInput) (e : sizeTested ws 
   pub page-tree : IsTree ws xs 0 32
   page-tree =
       let n = good .count in
-      record { tree = pageOf ws xs []; sites = page-sites; deep = good .shallow; fit = omega (arith, sized ws xs lengths-pass .few) }
+      record { tree = pageOf ws xs []; sites = page-sites; deep = good .shallow; fit = omega (arith, sized ws xs lengths-pass .few); reach = omega (arith, sized ws xs lengths-pass .numbers) }
 
   pub answered-size : (a : RequestedAxis) (s : Size) (r : SizeAnswer) → SizeOf ws xs q a s → r ≡ sizeReply s → r ≡ sizeResult ws xs q a
   unfolding sizeResult sizeByTest

@@ -6,7 +6,7 @@ use native.Mathlib.Omega.{arith}
 use native.Mathlib.Nat.{add-zero}
 use lib.ListN.{length, take, drop, length-take, length-drop}
 use lib.Ieee.{Float}
-use Rattle.style.specs.Style.{wordAt, styleAt}
+use Rattle.style.specs.Style.{wordAt, planeOf, styleAt}
 use Rattle.tree.specs.Tree.{Tree, Forest, node, none, more, countT, countF, depthT, flatT, flatF}
 use Rattle.tree.specs.Table.{Entry, entryOf, from}
 use Rattle.tree.proofs.Laws.{countT-node, countF-none, countF-more, flatT-node, flatF-more, depthT-node}
@@ -64,10 +64,11 @@ pub record Facts (ws : List ℕ) (xs : List Float) (b depth : ℕ) : Type 0 wher
   pub words-some : 4 ≤ length ws
   pub deep : 1 ≤ depth
   pub fit : 4 * b + length ws ≤ 4096
+  pub reach : b < planeOf xs
   pub kids : IsForest (take (length ws - 4) (drop 4 ws)) xs (b + 1) (depth - 1)
 
-facts-of : (ws : List ℕ) (xs : List Float) (b depth : ℕ) (t : Tree Site) → SitesT ws xs b t → depthT t ≤ depth → b + countT t ≤ 1024 → Facts ws xs b depth
-facts-of ws xs b depth (node l ks) h dp fit =
+facts-of : (ws : List ℕ) (xs : List Float) (b depth : ℕ) (t : Tree Site) → SitesT ws xs b t → depthT t ≤ depth → b + countT t ≤ 1024 → b + countT t ≤ planeOf xs → Facts ws xs b depth
+facts-of ws xs b depth (node l ks) h dp fit reach =
     let one : countT (node l ks) ≡ suc (countF ks) = countT-node l ks in
     let wl = h .words-long in
     let z = simp depthT-node at dp in
@@ -75,11 +76,12 @@ facts-of ws xs b depth (node l ks) h dp fit =
       words-some = omega arith;
       deep = omega arith;
       fit = omega arith;
-      kids = record { forest = ks; sites = kids-of ws xs b l ks h; deep = omega arith; fit = omega arith };
+      reach = omega arith;
+      kids = record { forest = ks; sites = kids-of ws xs b l ks h; deep = omega arith; fit = omega arith; reach = omega arith };
     }
 
 pub facts : (ws : List ℕ) (xs : List Float) (b depth : ℕ) → IsTree ws xs b depth → Facts ws xs b depth
-facts ws xs b depth h = facts-of ws xs b depth (h .tree) (h .sites) (h .deep) (h .fit)
+facts ws xs b depth h = facts-of ws xs b depth (h .tree) (h .sites) (h .deep) (h .fit) (h .reach)
 
 -- ---- what a loop over siblings has left, from node a on
 pub record Left (ws : List ℕ) (xs : List Float) (b a : ℕ) (left : Forest Site) : Type 0 where

@@ -8,6 +8,7 @@ use Rattle.geometry.specs.Geometry.{zeroF}
 use Rattle.geometry.specs.declared.Size.{Size}
 use Rattle.util.specs.declared.OptionF32.{OptionF32}
 use Rattle.length.specs.declared.AvailableSpace.{AvailableSpace}
+use Rattle.style.specs.Style.{planeOf}
 use Rattle.tree.specs.Tree.{Tree, Forest, countT, countF, depthT, depthF, flatT, flatF}
 use Rattle.tree.specs.Table.{entryOf, from}
 use Rattle.steps.specs.Stack.{startOf}
@@ -30,18 +31,20 @@ pub record SitesF (ws : List ℕ) (xs : List Float) (b : ℕ) (ts : Forest Site)
   pub words-long : length ws ≡ 4 * countF ts
   pub sites-are : from (siteAt ws xs [] b) 0 (countF ts) ≡ flatF entryOf ts
 
--- some tree has them; no deeper than `depth`, and its numbers are a page's
+-- some tree has them; no deeper than `depth`, its numbers are a page's, and each of its nodes has a place in the planes
 pub record IsTree (ws : List ℕ) (xs : List Float) (b depth : ℕ) : Type 0 where
   pub tree : Tree Site
   pub sites : SitesT ws xs b tree
   pub deep : depthT tree ≤ depth
   pub fit : b + countT tree ≤ 1024
+  pub reach : b + countT tree ≤ planeOf xs
 
 pub record IsForest (ws : List ℕ) (xs : List Float) (b depth : ℕ) : Type 0 where
   pub forest : Forest Site
   pub sites : SitesF ws xs b forest
   pub deep : depthF forest ≤ depth
   pub fit : b + countF forest ≤ 1024
+  pub reach : b + countF forest ≤ planeOf xs
 
 abbrev pub Width : List ℕ → List Float → ℕ → ProbeInput → Float → Type 0
 Width ws xs b q r = (t : Tree Site) → SitesT ws xs b t → r ≡ widthT t q

@@ -29,21 +29,19 @@ fn width_of(words: &[u32], numbers: &[f32], base: usize, depth: usize, q: ProbeI
     requires { ⌜ IsTree (now words) (now numbers) base depth ⌝ }
     ensures { λ r. ⌜ Width (now (words .entry)) (now (numbers .entry)) base q r ⌝ }
 {
-    let s = style::style_at(words, 0, numbers, base);
-    let kind = s.kind;
     let a = q.available;
-    if style::is_leaf(kind) {
-        let m = s.measure;
-        return widths::leaf_width(m, a);
+    if reader::is_leaf(words) {
+        return widths::leaf_width(style::measure_at(words, 0, numbers, base), a);
     }
-    let known = widths::probe_known(s, q);
+    let r = reader::reader_at(words, numbers, base);
+    let known = widths::probe_known(r, numbers, q);
     let width = known.width;
     match width {
         OptionF32::Some(w) => w,
         OptionF32::None => {
-            let room = widths::available_inside(s, OptionF32::None, a);
+            let room = widths::available_inside(r, numbers, OptionF32::None, a);
             let most = widest(&words[4..], numbers, base + 1, depth - 1, room);
-            widths::width_from(s, OptionF32::None, most)
+            widths::width_from(r, numbers, OptionF32::None, most)
         }
     }
 }
@@ -60,14 +58,14 @@ fn widened(
     requires { ⌜ IsTree (now words) (now numbers) base depth ⌝ }
     ensures { λ r. ⌜ Widened (now (words .entry)) (now (numbers .entry)) base a most r ⌝ }
 {
-    let s = style::style_at(words, 0, numbers, base);
-    let want = widths::want_of(s, a);
+    let r = reader::reader_at(words, numbers, base);
+    let want = widths::want_of(r, numbers, a);
     match want {
         Want::Nothing => most,
         Want::Outer(w) => util::f32_max(most, w),
         Want::Probe(q) => {
             let w = width_of(words, numbers, base, depth, q);
-            let o = widths::outer_width(s, a, w);
+            let o = widths::outer_width(r, numbers, a, w);
             util::f32_max(most, o)
         }
     }
@@ -102,15 +100,12 @@ fn measured(
     requires { ⌜ IsTree (now words) (now numbers) base depth ⌝ }
     ensures { λ r. ⌜ Measured (now (words .entry)) (now (numbers .entry)) base q found r ⌝ }
 {
-    let s = style::style_at(words, 0, numbers, base);
-    let kind = s.kind;
-    if style::is_leaf(kind) {
-        let m = s.measure;
-        return heights::leaf_output(m, q);
+    if reader::is_leaf(words) {
+        return heights::leaf_at(words, numbers, base, q);
     }
-    let f = frames::frame_of(s, q, found);
+    let f = frames::frame_at(words, numbers, base, q, found);
     let end = stacked(&words[4..], numbers, base + 1, depth - 1, f);
-    let d = heights::finish(s, q, f, end);
+    let d = heights::finish_at(words, numbers, base, q, f, end);
     d.output
 }
 
@@ -137,14 +132,14 @@ fn passed(words: &[u32], numbers: &[f32], base: usize, depth: usize, f: Frame, c
     requires counts { ⌜ Counts c ⌝ }
     ensures { λ r. ⌜ Passed (now (words .entry)) (now (numbers .entry)) base f c r ⌝ }
 {
-    let s = style::style_at(words, 0, numbers, base);
-    let flow = style::flow_of(s);
+    let flow = reader::flow(words);
     match flow {
         Flow::Gone => stacking::past_hidden(c),
         Flow::Out => stacking::past_aside(c),
         Flow::In => {
-            let i = stacking::item_of(f, s);
-            let q = stacking::child_input(f, s, i);
+            let plan = stacking::item::plan_at(words, numbers, base, f);
+            let q = plan.input;
+            let i = plan.footing;
             let o = measured(words, numbers, base, depth, q, 0.0);
             stacking::stepped_past(f, c, i, o)
         }
@@ -168,12 +163,12 @@ fn found_width(words: &[u32], numbers: &[f32], q: LayoutInput, width: OptionF32)
     match width {
         OptionF32::Some(w) => 0.0,
         OptionF32::None => {
-            let s = style::style_at(words, 0, numbers, 0);
+            let r = reader::reader_at(words, numbers, 0);
             let parent = q.parent;
             let a = q.available;
-            let room = widths::available_inside(s, parent, a);
+            let room = widths::available_inside(r, numbers, parent, a);
             let most = widest(&words[4..], numbers, 1, 31, room);
-            widths::width_from(s, parent, most)
+            widths::width_from(r, numbers, parent, most)
         }
     }
 }
@@ -209,11 +204,11 @@ fn size_below(words: &[u32], numbers: &[f32], q: LayoutInput, axis: RequestedAxi
     requires { ⌜ IsTree (now words) (now numbers) 0 32 ⌝ }
     ensures { λ r. ⌜ Rest (now (words .entry)) (now (numbers .entry)) q axis r ⌝ }
 {
-    let s = style::style_at(words, 0, numbers, 0);
+    let r = reader::reader_at(words, numbers, 0);
     let parent = q.parent;
     let asked = q.known;
-    let z = sizing::sizing_of(s, parent);
-    let known = sizing::known_dimensions(s, z, asked);
+    let z = sizing::sizing_of(r, numbers, parent);
+    let known = sizing::known_dimensions(reader::ratio(r, numbers), z, asked);
     let both = z.both;
     let width = known.width;
     let height = known.height;
@@ -249,10 +244,10 @@ fn size_of(words: &[u32], numbers: &[f32], q: LayoutInput, axis: RequestedAxis) 
     requires { ⌜ IsTree (now words) (now numbers) 0 32 ⌝ }
     ensures { λ r. ⌜ SizeOf (now (words .entry)) (now (numbers .entry)) q axis r ⌝ }
 {
-    let s = style::style_at(words, 0, numbers, 0);
+    let r = reader::reader_at(words, numbers, 0);
     let parent = q.parent;
     let asked = q.known;
-    let z = sizing::sizing_of(s, parent);
+    let z = sizing::sizing_of(r, numbers, parent);
     let known = sizing::known_by_style(z, asked);
     let width = known.width;
     let height = known.height;

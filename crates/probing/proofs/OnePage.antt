@@ -12,6 +12,7 @@ use Rattle.util.specs.declared.OptionSize.{OptionSize}
 use Rattle.length.specs.declared.AvailableSpace.{AvailableSpace}
 use Rattle.style.specs.Style.{styleAt}
 use Rattle.style.specs.declared.Style.{Style}
+use Rattle.style.specs.Style.{planeOf}
 use Rattle.tree.specs.Tree.{Tree, Forest, node, countT, depthT, flatT, flatF, mapT, mapF}
 use Rattle.tree.proofs.Laws.{countT-node, flatT-node, mapT-node, depthT-node}
 use Rattle.tree.proofs.Lists.{tail-part, tail-put}
@@ -49,14 +50,15 @@ kids-tabled ws xs rs ms es l ks rs1 ms1 h g =
 
 pub kids-given : (ws : List ℕ) (xs rs : List Float) (ms es : List ℕ) (rs1 : List Float) (ms1 : List ℕ) → IsTree ws xs rs ms es 0 32 → Becomes rs ms rs1 ms1 clearedRow
     → IsForest (take (length ws - 4) (drop 4 ws)) xs (take (length rs1 - 16) (drop 16 rs1)) (take (length ms1 - 2) (drop 2 ms1)) es 1 31
-kids-given ws xs rs ms es rs1 ms1 h cl = go (h .tree) (h .tabled) (h .deep) (h .fit)
+kids-given ws xs rs ms es rs1 ms1 h cl = go (h .tree) (h .tabled) (h .deep) (h .fit) (h .reach)
   where
-    go : (t : Tree Cell) → TabledT ws xs rs ms es 0 t → depthT t ≤ 32 → 0 + countT t ≤ 1024
+    go : (t : Tree Cell) → TabledT ws xs rs ms es 0 t → depthT t ≤ 32 → 0 + countT t ≤ 1024 → 0 + countT t ≤ planeOf xs
         → IsForest (take (length ws - 4) (drop 4 ws)) xs (take (length rs1 - 16) (drop 16 rs1)) (take (length ms1 - 2) (drop 2 ms1)) es 1 31
-    go (node l ks) k dp fit =
+    go (node l ks) k dp fit reach =
         let z = simp depthT-node at dp in
         let y = simp countT-node at fit in
-        record { forest = ks; tabled = kids-tabled ws xs rs ms es l ks rs1 ms1 k (headed ws xs rs ms es l ks rs1 ms1 k cl); deep = omega arith; fit = omega arith }
+        let x = simp countT-node at reach in
+        record { forest = ks; tabled = kids-tabled ws xs rs ms es l ks rs1 ms1 k (headed ws xs rs ms es l ks rs1 ms1 k cl); deep = omega arith; fit = omega arith; reach = omega arith }
 
 module _ (ws : List ℕ) (xs rs : List Float) (ms es : List ℕ) (q : LayoutInput) (s : Style) (z : Sizing) (known : OptionSize) (hs : s ≡ styleAt ws 0 xs 0) (hz : z ≡ stepA s (q .parent)) (hk : known ≡ knownOf s z (q .known)) where
   known-is : (l : Cell) → s ≡ l .site .style → knownOf (l .site .style) (stepA (l .site .style) (q .parent)) (q .known) .width ≡ known .width

@@ -52,7 +52,7 @@ fn determine_content_based_container_width(
     let mut most = 0.0f32;
     let mut i = 0usize;
     while 4 * i < words.len() {
-        let e = i + style::word(words, i, 0) as usize;
+        let e = i + style::word_in(words, i, 0) as usize;
         let i4 = 4 * i;
         let e4 = 4 * e;
         let i16 = 16 * i;
@@ -90,8 +90,8 @@ fn widen(
     requires { ⌜ IsTree (now words) (now numbers) (now rows) (now marks) (now edits) base depth ⌝ }
     ensures { λ r. ⌜ WidenedT (now (words .entry)) (now (numbers .entry)) (now (rows .entry)) (now (marks .entry)) (now (edits .entry)) base a most r (now (rows .exit)) (now (marks .exit)) ⌝ }
 {
-    let s = style::style_at(words, 0, numbers, base);
-    let want = widths::want_of(s, a);
+    let r = reader::reader_at(words, numbers, base);
+    let want = widths::want_of(r, numbers, a);
     match want {
         Want::Nothing => {
             rows::clear_probes(rows, marks);
@@ -103,7 +103,7 @@ fn widen(
         }
         Want::Probe(q) => {
             let w = probe(words, numbers, rows, marks, edits, base, depth, q);
-            util::f32_max(most, widths::outer_width(s, a, w))
+            util::f32_max(most, widths::outer_width(r, numbers, a, w))
         }
     }
 }
@@ -145,15 +145,13 @@ fn probe_anew(
     requires { ⌜ IsTree (now words) (now numbers) (now rows) (now marks) (now edits) base depth ⌝ }
     ensures { λ r. ⌜ AnewT (now (words .entry)) (now (numbers .entry)) (now (rows .entry)) (now (marks .entry)) (now (edits .entry)) base q r (now (rows .exit)) (now (marks .exit)) ⌝ }
 {
-    let s = style::style_at(words, 0, numbers, base);
     let a = q.available;
-    let kind = s.kind;
-    if style::is_leaf(kind) {
-        let m = s.measure;
+    if reader::is_leaf(words) {
         clear_rest(rows, marks);
-        return widths::leaf_width(m, a);
+        return widths::leaf_width(style::measure_at(words, 0, numbers, base), a);
     }
-    let known = widths::probe_known(s, q);
+    let r = reader::reader_at(words, numbers, base);
+    let known = widths::probe_known(r, numbers, q);
     let width = known.width;
     match width {
         OptionF32::Some(w) => {
@@ -161,7 +159,7 @@ fn probe_anew(
             w
         }
         OptionF32::None => {
-            let inside = widths::available_inside(s, OptionF32::None, a);
+            let inside = widths::available_inside(r, numbers, OptionF32::None, a);
             let most = determine_content_based_container_width(
                 &words[4..],
                 numbers,
@@ -172,7 +170,7 @@ fn probe_anew(
                 depth - 1,
                 inside,
             );
-            widths::width_from(s, OptionF32::None, most)
+            widths::width_from(r, numbers, OptionF32::None, most)
         }
     }
 }
@@ -189,12 +187,12 @@ pub fn width_pass(
     requires { ⌜ IsTree (now words) (now numbers) (now rows) (now marks) (now edits) 0 32 ⌝ }
     ensures { λ r. ⌜ PassedT (now (words .entry)) (now (numbers .entry)) (now (rows .entry)) (now (marks .entry)) (now (edits .entry)) q r (now (rows .exit)) (now (marks .exit)) ⌝ }
 {
-    let s = style::style_at(words, 0, numbers, 0);
+    let r = reader::reader_at(words, numbers, 0);
     let parent = q.parent;
     let asked = q.known;
     let available = q.available;
-    let z = sizing::sizing_of(s, parent);
-    let known = sizing::known_dimensions(s, z, asked);
+    let z = sizing::sizing_of(r, numbers, parent);
+    let known = sizing::known_dimensions(reader::ratio(r, numbers), z, asked);
     let width = known.width;
     match width {
         OptionF32::Some(_) => {
@@ -203,7 +201,7 @@ pub fn width_pass(
         }
         OptionF32::None => {
             clear_first(rows, marks);
-            let inside = widths::available_inside(s, parent, available);
+            let inside = widths::available_inside(r, numbers, parent, available);
             let most = determine_content_based_container_width(
                 &words[4..],
                 numbers,
@@ -214,7 +212,7 @@ pub fn width_pass(
                 31,
                 inside,
             );
-            widths::width_from(s, parent, most)
+            widths::width_from(r, numbers, parent, most)
         }
     }
 }

@@ -1,69 +1,91 @@
 // Steps A to E of one box: its sizes and insets (the crate's compute_block_layout and the start of compute_inner).
 ghost use mathlib.Core.Path.{_≡_};
+ghost use Rattle.geometry.specs.Geometry.{across};
+ghost use Rattle.style.specs.declared.Style.{Style};
+ghost use Rattle.reader.specs.Reader.{Reads, styleIn};
 ghost use Rattle.steps.specs.Sizing.{boxSize, sizingOf, stepA, decided, knownAxis, stepB, filled, stepD, knownOf, barOf, gutter, insets};
 use geometry::Rect;
 use length::LengthSize;
+use reader::Reader;
 use steps::Sizing;
 use style::Overflow;
-use style::Style;
 use util::OptionF32;
 use util::OptionSize;
 
-fn box_size(s: Style, l: LengthSize, basis: OptionF32, height: OptionF32, both: Rect) -> OptionSize
-    ensures { λ r. ⌜ r ≡ boxSize s l basis height both ⌝ }
+// A size against its two bases, for any style with this ratio and this box.
+fn box_size(
+    content: bool,
+    ratio: OptionF32,
+    l: LengthSize,
+    basis: OptionF32,
+    height: OptionF32,
+    both: Rect,
+) -> OptionSize
+    ensures { λ r. ⌜ ((s : Style) → s .content ≡ content → s .ratio ≡ ratio → r ≡ boxSize s l basis height both) ⌝ }
 {
-    let ratio = s.ratio;
     let plain = l.resolve_axes(basis, height)
         .maybe_apply_aspect_ratio(ratio);
-    if s.content {
+    if content {
         plain.maybe_add(both.sum_axes())
     } else {
         plain
     }
 }
 
-// Step A where no height has a basis. Written out: through sizing_in the style would be copied once more.
-pub fn sizing_of(s: Style, basis: OptionF32) -> Sizing
-    ensures { λ r. ⌜ r ≡ stepA s basis ⌝ }
+// Step A.
+pub fn sizing_in(r: Reader, numbers: &[f32], basis: OptionF32, height: OptionF32) -> Sizing
+    requires { ⌜ Reads r (now numbers) ⌝ }
+    ensures { λ z. ⌜ z ≡ sizingOf (styleIn r (now (numbers .entry))) basis height ⌝ }
 {
-    let sp = s.padding;
-    let sb = s.border;
-    let padding = sp.resolve_sides(basis);
-    let border = sb.resolve_sides(basis);
+    let padding = reader::padding(r, numbers).resolve_sides(basis);
+    let border = reader::border(r, numbers).resolve_sides(basis);
     let both = padding.add(border);
-    let size = s.size;
-    let min = s.min;
-    let max = s.max;
+    let content = style::flag(r.style, 2);
+    let ratio = reader::ratio(r, numbers);
+    let size = reader::size(r, numbers);
+    let min = reader::min(r, numbers);
+    let max = reader::max(r, numbers);
     Sizing {
         padding,
         border,
         both,
-        size: box_size(s, size, basis, OptionF32::None, both),
-        min: box_size(s, min, basis, OptionF32::None, both),
-        max: box_size(s, max, basis, OptionF32::None, both),
+        size: box_size(content, ratio, size, basis, height, both),
+        min: box_size(content, ratio, min, basis, height, both),
+        max: box_size(content, ratio, max, basis, height, both),
     }
 }
 
-// Step A.
-pub fn sizing_in(s: Style, basis: OptionF32, height: OptionF32) -> Sizing
-    ensures { λ r. ⌜ r ≡ sizingOf s basis height ⌝ }
+// Step A where no height has a basis.
+pub fn sizing_of(r: Reader, numbers: &[f32], basis: OptionF32) -> Sizing
+    requires { ⌜ Reads r (now numbers) ⌝ }
+    ensures { λ z. ⌜ z ≡ stepA (styleIn r (now (numbers .entry))) basis ⌝ }
 {
-    let sp = s.padding;
-    let sb = s.border;
-    let padding = sp.resolve_sides(basis);
-    let border = sb.resolve_sides(basis);
-    let both = padding.add(border);
-    let size = s.size;
-    let min = s.min;
-    let max = s.max;
-    Sizing {
-        padding,
-        border,
-        both,
-        size: box_size(s, size, basis, height, both),
-        min: box_size(s, min, basis, height, both),
-        max: box_size(s, max, basis, height, both),
-    }
+    sizing_in(r, numbers, basis, OptionF32::None)
+}
+
+// Step A's padding+border on the left, and on the right.
+fn left_of(r: Reader, numbers: &[f32], basis: OptionF32) -> f32
+    requires { ⌜ Reads r (now numbers) ⌝ }
+    ensures { λ x. ⌜ x ≡ stepA (styleIn r (now (numbers .entry))) basis .both .left ⌝ }
+{
+    length::resolve_or_zero(reader::padding_left(r, numbers), basis)
+        + length::resolve_or_zero(reader::border_left(r, numbers), basis)
+}
+
+fn right_of(r: Reader, numbers: &[f32], basis: OptionF32) -> f32
+    requires { ⌜ Reads r (now numbers) ⌝ }
+    ensures { λ x. ⌜ x ≡ stepA (styleIn r (now (numbers .entry))) basis .both .right ⌝ }
+{
+    length::resolve_or_zero(reader::padding_right(r, numbers), basis)
+        + length::resolve_or_zero(reader::border_right(r, numbers), basis)
+}
+
+// Step A's padding+border across.
+pub fn both_across(r: Reader, numbers: &[f32], basis: OptionF32) -> f32
+    requires { ⌜ Reads r (now numbers) ⌝ }
+    ensures { λ x. ⌜ x ≡ across (stepA (styleIn r (now (numbers .entry))) basis .both) ⌝ }
+{
+    left_of(r, numbers, basis) + right_of(r, numbers, basis)
 }
 
 // Step B: min where max <= min.
@@ -134,19 +156,18 @@ fn fill_axes(z: Sizing, known: OptionSize, f: OptionSize) -> OptionSize
     }
 }
 
-// Step D.
-pub fn known_by_ratio(s: Style, z: Sizing, known: OptionSize) -> OptionSize
-    ensures { λ r. ⌜ r ≡ stepD s z known ⌝ }
+// Step D, for any style with this ratio.
+pub fn known_by_ratio(ratio: OptionF32, z: Sizing, known: OptionSize) -> OptionSize
+    ensures { λ r. ⌜ ((s : Style) → s .ratio ≡ ratio → r ≡ stepD s z known) ⌝ }
 {
-    let ratio = s.ratio;
     fill_axes(z, known, known.maybe_apply_aspect_ratio(ratio))
 }
 
 // Steps B and D.
-pub fn known_dimensions(s: Style, z: Sizing, asked: OptionSize) -> OptionSize
-    ensures { λ r. ⌜ r ≡ knownOf s z asked ⌝ }
+pub fn known_dimensions(ratio: OptionF32, z: Sizing, asked: OptionSize) -> OptionSize
+    ensures { λ r. ⌜ ((s : Style) → s .ratio ≡ ratio → r ≡ knownOf s z asked) ⌝ }
 {
-    known_by_ratio(s, z, known_by_style(z, asked))
+    known_by_ratio(ratio, z, known_by_style(z, asked))
 }
 
 fn bar(o: Overflow, x: f32) -> f32
@@ -160,25 +181,40 @@ fn bar(o: Overflow, x: f32) -> f32
     }
 }
 
-fn scrollbar_gutter(s: Style) -> Rect
-    ensures { λ r. ⌜ r ≡ gutter s ⌝ }
+fn scrollbar_gutter(r: Reader, numbers: &[f32]) -> Rect
+    requires { ⌜ Reads r (now numbers) ⌝ }
+    ensures { λ g. ⌜ g ≡ gutter (styleIn r (now (numbers .entry))) ⌝ }
 {
-    let o = s.overflow;
+    let o = style::overflow_of(r.style);
     let ox = o.x;
     let oy = o.y;
-    let side = bar(oy, s.scrollbar);
-    let bottom = bar(ox, s.scrollbar);
+    let rtl = style::flag(r.style, 3);
+    let width = reader::scrollbar(r, numbers);
+    let side = bar(oy, width);
+    let bottom = bar(ox, width);
     Rect {
         top: 0.0,
-        right: util::pick(s.rtl, 0.0, side),
+        right: util::pick(rtl, 0.0, side),
         bottom,
-        left: util::pick(s.rtl, side, 0.0),
+        left: util::pick(rtl, side, 0.0),
     }
 }
 
 // Step E: padding+border plus gutter.
-pub fn content_box_inset(s: Style, both: Rect) -> Rect
-    ensures { λ r. ⌜ r ≡ insets s both ⌝ }
+pub fn content_box_inset(r: Reader, numbers: &[f32], both: Rect) -> Rect
+    requires { ⌜ Reads r (now numbers) ⌝ }
+    ensures { λ i. ⌜ i ≡ insets (styleIn r (now (numbers .entry))) both ⌝ }
 {
-    both.add(scrollbar_gutter(s))
+    both.add(scrollbar_gutter(r, numbers))
+}
+
+// Step E's insets across.
+pub fn inset_across(r: Reader, numbers: &[f32], basis: OptionF32) -> f32
+    requires { ⌜ Reads r (now numbers) ⌝ }
+    ensures { λ x. ⌜ x ≡ across (insets (styleIn r (now (numbers .entry))) (stepA (styleIn r (now (numbers .entry))) basis .both)) ⌝ }
+{
+    let bar = scrollbar_gutter(r, numbers);
+    let left = left_of(r, numbers, basis) + bar.left;
+    let right = right_of(r, numbers, basis) + bar.right;
+    left + right
 }

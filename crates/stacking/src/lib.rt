@@ -1,24 +1,38 @@
-// Step J: a child's question and place, and the cursor past it (the crate's perform_final_layout_on_in_flow_children).
+// Step J: a child's place, and the cursor past it (the crate's perform_final_layout_on_in_flow_children).
+pub mod item;
+
 ghost use mathlib.Core.Path.{_≡_};
 ghost use mathlib.Core.Bool.{cond};
 ghost use Prim.Native.Nat.{_+_, _<_};
 ghost use Rattle.steps.specs.Baseline.{atPlace, baselinePast};
-ghost use Rattle.steps.specs.Stack.{innerWidth, startOf, negOpt, offsetX, relativeOffset, offsetBy, itemOf, askedWidth, askedHeight, childInput, topMargins, bottomMargins, atTop, gapOf, freeOf, shareOf, placeX, placeY, placeOf, pastThrough, pastBox, stepped, lineOf, edgesOf, pastAside, pastHidden, Counts};
+ghost use Rattle.style.specs.Style.{planeOf, styleAt};
+ghost use Rattle.steps.specs.Stack.{innerWidth, startOf, questionTo, itemOf, topMargins, bottomMargins, atTop, gapOf, freeOf, shareOf, placeX, placeY, placeOf, pastThrough, pastBox, stepped, lineOf, edgesOf, pastAside, pastHidden, Counts};
+ghost use Rattle.steps.specs.declared.Sizing.{Sizing};
+ghost use Rattle.stacking.specs.Footing.{footingOf, itemWith};
 use geometry::Line;
 use geometry::Point;
-use length::AvailableSpace;
-use length::LengthRect;
+use geometry::Rect;
 use margin::CollapsibleMarginSet;
-use steps::BlockItem;
 use steps::Cursor;
 use steps::Frame;
 use steps::LayoutInput;
 use steps::LayoutOutput;
-use style::Position;
-use style::Style;
 use tree::Order;
 use util::OptionF32;
-use util::OptionSize;
+
+// What is held of a child while it is laid out: margins (auto counts 0), which side margins are auto, the relative offset.
+pub struct Footing {
+    pub margin: Rect,
+    pub left: bool,
+    pub right: bool,
+    pub offset: Point,
+}
+
+// A child's question, and its footing.
+pub struct Plan {
+    pub input: LayoutInput,
+    pub footing: Footing,
+}
 
 pub fn inner_width(f: Frame) -> f32
     ensures { λ r. ⌜ r ≡ innerWidth f ⌝ }
@@ -43,140 +57,16 @@ pub fn start_of(f: Frame) -> Cursor
     }
 }
 
-fn negated(o: OptionF32) -> OptionF32
-    ensures { λ r. ⌜ r ≡ negOpt o ⌝ }
-{
-    match o {
-        OptionF32::None => OptionF32::None,
-        OptionF32::Some(x) => OptionF32::Some(-x),
-    }
-}
-
-fn offset_x(left: OptionF32, right: OptionF32, rtl: bool) -> f32
-    ensures { λ r. ⌜ r ≡ offsetX left right rtl ⌝ }
-{
-    if rtl {
-        negated(right).or(left).or_zero()
-    } else {
-        left.or(negated(right)).or_zero()
-    }
-}
-
-fn resolve_relative_offset(i: LengthRect, rtl: bool, basis: OptionF32, height: OptionF32) -> Point
-    ensures { λ r. ⌜ r ≡ relativeOffset i rtl basis height ⌝ }
-{
-    let top = i.top;
-    let right = i.right;
-    let bottom = i.bottom;
-    let left = i.left;
-    Point {
-        x: offset_x(
-            length::maybe_resolve(left, basis),
-            length::maybe_resolve(right, basis),
-            rtl,
-        ),
-        y: length::maybe_resolve(top, height)
-            .or(negated(length::maybe_resolve(bottom, height)))
-            .or_zero(),
-    }
-}
-
-fn offset_by(p: Position, i: LengthRect, rtl: bool, basis: OptionF32, height: OptionF32) -> Point
-    ensures { λ r. ⌜ r ≡ offsetBy p i rtl basis height ⌝ }
-{
-    match p {
-        Position::Static => Point { x: 0.0, y: 0.0 },
-        Position::Relative => resolve_relative_offset(i, rtl, basis, height),
-        Position::Absolute => Point { x: 0.0, y: 0.0 },
-    }
-}
-
-// A child's item, reworked from its style each time.
-pub fn item_of(f: Frame, s: Style) -> BlockItem
-    ensures { λ r. ⌜ r ≡ itemOf f s ⌝ }
-{
-    let height = f.heightBasis;
-    let margin = s.margin;
-    let left = margin.left;
-    let right = margin.right;
-    let position = s.position;
-    let inset = s.inset;
-    let inner = inner_width(f);
-    BlockItem {
-        sizing: sizing::sizing_in(s, OptionF32::Some(inner), height),
-        margin: margin.resolve_sides(OptionF32::Some(inner)),
-        left: length::is_auto(left),
-        right: length::is_auto(right),
-        offset: offset_by(position, inset, f.rtl, OptionF32::Some(inner), height),
-    }
-}
-
-fn asked_width(f: Frame, i: BlockItem) -> f32
-    ensures { λ r. ⌜ r ≡ askedWidth f i ⌝ }
-{
-    let margin = i.margin;
-    let z = i.sizing;
-    let both = z.both;
-    let size = z.size;
-    let min = z.min;
-    let max = z.max;
-    let w = size.width;
-    let lo = min.width;
-    let hi = max.width;
-    let stretched = inner_width(f) - margin.horizontal_axis_sum();
-    util::f32_max(
-        util::maybe_clamp(w.unwrap_or(stretched), lo, hi),
-        both.horizontal_axis_sum(),
-    )
-}
-
-fn asked_height(i: BlockItem) -> OptionF32
-    ensures { λ r. ⌜ r ≡ askedHeight i ⌝ }
-{
-    let z = i.sizing;
-    let both = z.both;
-    let size = z.size;
-    let min = z.min;
-    let max = z.max;
-    let h = size.height;
-    let lo = min.height;
-    let hi = max.height;
-    h.clamp(lo, hi).floor(both.vertical_axis_sum())
-}
-
-// The final question that a container puts to a child, of its item.
-pub fn child_input(f: Frame, s: Style, i: BlockItem) -> LayoutInput
-    ensures { λ r. ⌜ r ≡ childInput f s i ⌝ }
-{
-    let plain = frames::is_plain_block(s);
-    let basis = f.heightBasis;
-    let width = asked_width(f, i);
-    let known = OptionSize {
-        width: OptionF32::Some(width),
-        height: asked_height(i),
-    };
-    LayoutInput {
-        known,
-        parent: OptionF32::Some(inner_width(f)),
-        basis,
-        definiteHeight: true,
-        available: AvailableSpace::MaxContent,
-        collapseStart: plain,
-        collapseEnd: plain,
-        nested: true,
-    }
-}
-
-fn top_margins(i: BlockItem, o: LayoutOutput) -> CollapsibleMarginSet
-    ensures { λ r. ⌜ r ≡ topMargins i o ⌝ }
+fn top_margins(i: Footing, o: LayoutOutput) -> CollapsibleMarginSet
+    ensures { λ r. ⌜ ((z : Sizing) → r ≡ topMargins (itemWith z i) o) ⌝ }
 {
     let m = i.margin;
     let t = o.top;
     t.collapse_with_margin(m.top)
 }
 
-fn bottom_margins(i: BlockItem, o: LayoutOutput) -> CollapsibleMarginSet
-    ensures { λ r. ⌜ r ≡ bottomMargins i o ⌝ }
+fn bottom_margins(i: Footing, o: LayoutOutput) -> CollapsibleMarginSet
+    ensures { λ r. ⌜ ((z : Sizing) → r ≡ bottomMargins (itemWith z i) o) ⌝ }
 {
     let m = i.margin;
     let b = o.bottom;
@@ -196,8 +86,8 @@ fn gap_of(f: Frame, c: Cursor, t: CollapsibleMarginSet) -> f32
     util::pick(at_top(f, c), 0.0, strut.collapse_with_set(t).resolve())
 }
 
-fn free_of(f: Frame, i: BlockItem, w: f32) -> f32
-    ensures { λ r. ⌜ r ≡ freeOf f i w ⌝ }
+fn free_of(f: Frame, i: Footing, w: f32) -> f32
+    ensures { λ r. ⌜ ((z : Sizing) → r ≡ freeOf f (itemWith z i) w) ⌝ }
 {
     let margin = i.margin;
     let inner = inner_width(f);
@@ -210,8 +100,8 @@ fn share_of(own: bool, other: bool, margin: f32, free: f32) -> f32
     util::pick(own, util::pick(other, free / 2.0, free), margin)
 }
 
-fn place_x(f: Frame, i: BlockItem, w: f32) -> f32
-    ensures { λ r. ⌜ r ≡ placeX f i w ⌝ }
+fn place_x(f: Frame, i: Footing, w: f32) -> f32
+    ensures { λ r. ⌜ ((z : Sizing) → r ≡ placeX f (itemWith z i) w) ⌝ }
 {
     let margin = i.margin;
     let inset = f.inset;
@@ -224,8 +114,8 @@ fn place_x(f: Frame, i: BlockItem, w: f32) -> f32
     }
 }
 
-fn place_y(f: Frame, c: Cursor, i: BlockItem, o: LayoutOutput) -> f32
-    ensures { λ r. ⌜ r ≡ placeY f c i o ⌝ }
+fn place_y(f: Frame, c: Cursor, i: Footing, o: LayoutOutput) -> f32
+    ensures { λ r. ⌜ ((z : Sizing) → r ≡ placeY f c (itemWith z i) o) ⌝ }
 {
     let offset = i.offset;
     let gap = gap_of(f, c, top_margins(i, o));
@@ -233,8 +123,8 @@ fn place_y(f: Frame, c: Cursor, i: BlockItem, o: LayoutOutput) -> f32
 }
 
 // Where a child stands.
-pub fn place_of(f: Frame, c: Cursor, i: BlockItem, o: LayoutOutput) -> Point
-    ensures { λ r. ⌜ r ≡ placeOf f c i o ⌝ }
+pub fn place_of(f: Frame, c: Cursor, i: Footing, o: LayoutOutput) -> Point
+    ensures { λ r. ⌜ ((z : Sizing) → r ≡ placeOf f c (itemWith z i) o) ⌝ }
 {
     let size = o.size;
     Point {
@@ -307,8 +197,8 @@ fn past_box(
 }
 
 // A child's baseline in its container: its place is worked out only where it has one.
-fn baseline_at(f: Frame, c: Cursor, i: BlockItem, o: LayoutOutput) -> OptionF32
-    ensures { λ r. ⌜ r ≡ atPlace (placeY f c i o) (o .baseline) ⌝ }
+fn baseline_at(f: Frame, c: Cursor, i: Footing, o: LayoutOutput) -> OptionF32
+    ensures { λ r. ⌜ ((z : Sizing) → r ≡ atPlace (placeY f c (itemWith z i) o) (o .baseline)) ⌝ }
 {
     let own = o.baseline;
     match own {
@@ -318,8 +208,8 @@ fn baseline_at(f: Frame, c: Cursor, i: BlockItem, o: LayoutOutput) -> OptionF32
 }
 
 // The first baseline past a child.
-fn baseline_past(f: Frame, c: Cursor, i: BlockItem, o: LayoutOutput) -> OptionF32
-    ensures { λ r. ⌜ r ≡ baselinePast (c .baseline) (placeY f c i o) (o .baseline) ⌝ }
+fn baseline_past(f: Frame, c: Cursor, i: Footing, o: LayoutOutput) -> OptionF32
+    ensures { λ r. ⌜ ((z : Sizing) → r ≡ baselinePast (c .baseline) (placeY f c (itemWith z i) o) (o .baseline)) ⌝ }
 {
     let first = c.baseline;
     match first {
@@ -329,9 +219,9 @@ fn baseline_past(f: Frame, c: Cursor, i: BlockItem, o: LayoutOutput) -> OptionF3
 }
 
 // The cursor past an in-flow child.
-pub fn stepped_past(f: Frame, c: Cursor, i: BlockItem, o: LayoutOutput) -> Cursor
+pub fn stepped_past(f: Frame, c: Cursor, i: Footing, o: LayoutOutput) -> Cursor
     requires { ⌜ Counts c ⌝ }
-    ensures { λ r. ⌜ r ≡ stepped f c i o ⌝ }
+    ensures { λ r. ⌜ ((z : Sizing) → r ≡ stepped f c (itemWith z i) o) ⌝ }
 {
     let size = o.size;
     let t = top_margins(i, o);

@@ -1,10 +1,18 @@
 // A node's style out of its words and numbers (the crate's src/style/*.rs).
+mod decode;
+
 ghost use mathlib.Core.Path.{_≡_};
-ghost use Prim.Native.Nat.{_+_, _^_, _<_, _≤_};
+ghost use Prim.Native.Nat.{_+_, _*_, _^_, _<_, _≤_};
+ghost use lib.ListN.{length};
 ghost use Rattle.style.specs.Codes.{codeAt, flagAt, clearFrom, kindOf, positionOf, overflowOf, distributionAt, alignOf, distributed, alignAt, overflowXY, unitOf, lengthOf, ratioOf, baselineOf};
 ghost use Rattle.style.specs.Flow.{positioned, flowBy, flowAt, flowOf, isLeaf};
 ghost use Rattle.style.specs.Style.{wordAt, planeOf, numberPlace, numberAt, measureAt, styleAt};
 ghost use Rattle.style.specs.Fields.{sizeIn, rectIn};
+use crate::decode::align_from;
+use crate::decode::distributed;
+use crate::decode::kind_from;
+use crate::decode::overflow_from;
+use crate::decode::position_from;
 use length::Length;
 use length::LengthRect;
 use length::LengthSize;
@@ -111,64 +119,7 @@ pub fn clear_from(w: u32, k: u32) -> bool
     w >> k == 0
 }
 
-fn kind_from(k: u32) -> Kind
-    ensures { λ r. ⌜ r ≡ kindOf k ⌝ }
-{
-    match k {
-        0 => Kind::Block,
-        1 => Kind::Leaf,
-        2 => Kind::Hidden,
-        _ => Kind::Hidden,
-    }
-}
-
-fn position_from(k: u32) -> Position
-    ensures { λ r. ⌜ r ≡ positionOf k ⌝ }
-{
-    match k {
-        0 => Position::Static,
-        1 => Position::Relative,
-        2 => Position::Absolute,
-        _ => Position::Absolute,
-    }
-}
-
-fn overflow_from(k: u32) -> Overflow
-    ensures { λ r. ⌜ r ≡ overflowOf k ⌝ }
-{
-    match k {
-        0 => Overflow::Visible,
-        1 => Overflow::Clip,
-        2 => Overflow::Hidden,
-        _ => Overflow::Scroll,
-    }
-}
-
-fn align_from(k: u32) -> AlignContent
-    ensures { λ r. ⌜ r ≡ alignOf k ⌝ }
-{
-    match k {
-        0 => AlignContent::Normal,
-        1 => AlignContent::Start,
-        2 => AlignContent::Center,
-        _ => AlignContent::End,
-    }
-}
-
-// A word that distributes space; where there is none, what a says.
-fn distributed(k: u32, a: AlignContent) -> AlignContent
-    ensures { λ r. ⌜ r ≡ distributed k a ⌝ }
-{
-    match k {
-        0 => a,
-        1 => AlignContent::SpaceBetween,
-        2 => AlignContent::SpaceAround,
-        3 => AlignContent::SpaceEvenly,
-        _ => AlignContent::Stretch,
-    }
-}
-
-fn length_from(k: u32, x: f32) -> Length
+pub fn length_from(k: u32, x: f32) -> Length
     ensures { λ r. ⌜ r ≡ lengthOf k x ⌝ }
 {
     match k {
@@ -179,7 +130,7 @@ fn length_from(k: u32, x: f32) -> Length
     }
 }
 
-fn ratio_from(x: f32) -> OptionF32
+pub fn ratio_from(x: f32) -> OptionF32
     ensures { λ r. ⌜ r ≡ ratioOf x ⌝ }
 {
     if x == 0.0 {
@@ -195,6 +146,14 @@ pub fn unit(u: u32, v: u32, f: u32) -> u32
     ensures { λ r. ⌜ r ≡ unitOf u v f ⌝ }
 {
     if f < 14 { code(u, f) } else { code(v, f - 14) }
+}
+
+// Word k of node i, one of these words.
+pub fn word_in(words: &[u32], i: usize, k: usize) -> u32
+    requires { ⌜ i * 4 + k < length (now words) ⌝ }
+    ensures { λ r. ⌜ r ≡ wordAt (now (words .entry)) i k ⌝ }
+{
+    words[i * 4 + k]
 }
 
 // Word k of node i, and 0 past the end.
@@ -275,14 +234,14 @@ pub fn position_of(w: u32) -> Position
     position_from(code(w, 2))
 }
 
-fn align_of(w: u32) -> AlignContent
+pub fn align_of(w: u32) -> AlignContent
     ensures { λ r. ⌜ r ≡ alignAt w ⌝ }
 {
     let plain = align_from(code(w, 5));
     distributed(distribution(w), plain)
 }
 
-fn overflow_of(w: u32) -> OverflowXY
+pub fn overflow_of(w: u32) -> OverflowXY
     ensures { λ r. ⌜ r ≡ overflowXY w ⌝ }
 {
     OverflowXY {

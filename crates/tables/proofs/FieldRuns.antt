@@ -19,15 +19,15 @@ abbrev yes : ℕ → Bool
 yes _ = true
 
 -- which fields may be negative, run by run
-no-sign-first : (f : ℕ) → f < 6 → signed f ≡ false
+pub no-sign-first : (f : ℕ) → f < 6 → signed f ≡ false
 unfolding signed
 no-sign-first f h = rw (lt-leb 6 f h, lt-leb 18 f (omega arith))
 
-sign-margin : (f : ℕ) → 6 ≤ f → f < 10 → signed f ≡ true
+pub sign-margin : (f : ℕ) → 6 ≤ f → f < 10 → signed f ≡ true
 unfolding signed
 sign-margin f l h = rw (le-leb 6 f l, lt-ltb f 10 h)
 
-no-sign-middle : (f : ℕ) → 10 ≤ f → f < 18 → signed f ≡ false
+pub no-sign-middle : (f : ℕ) → 10 ≤ f → f < 18 → signed f ≡ false
 unfolding signed
 no-sign-middle f l h = rw (le-ltb f 10 l, lt-leb 18 f h, and-no (leb 6 f))
   where
@@ -35,7 +35,7 @@ no-sign-middle f l h = rw (le-ltb f 10 l, lt-leb 18 f h, and-no (leb 6 f))
     and-no true = refl
     and-no false = refl
 
-sign-inset : (f : ℕ) → 18 ≤ f → f < 22 → signed f ≡ true
+pub sign-inset : (f : ℕ) → 18 ≤ f → f < 22 → signed f ≡ true
 unfolding signed
 sign-inset f l h = rw (le-leb 18 f l, lt-ltb f 22 h) (or-yes (leb 6 f && ltb f 10))
   where

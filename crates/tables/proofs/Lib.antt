@@ -14,3 +14,4 @@ pub mod TreeFaults
 pub mod UnitMasks
 pub mod UnitTests
 pub mod FieldRuns
+pub mod PixelRuns

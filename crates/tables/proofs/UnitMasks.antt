@@ -20,7 +20,7 @@ pairs (suc k) = pairs k * 4 + 1
 -- ---- the lowest pair apart
 
 -- a mask of pairs looks at the lowest bit, and then two places on
-mask-step : (x m : ℕ) → bitAnd x (m * 4 + 1) ≡ bitAnd (x / 4) m * 4 + x % 2
+pub mask-step : (x m : ℕ) → bitAnd x (m * 4 + 1) ≡ bitAnd (x / 4) m * 4 + x % 2
 mask-step x m =
     ap (λ (y : ℕ). bitAnd y (m * 4 + 1)) (sym (div-add-mod' x 4))
     ∙ and-block 2 (x / 4) m (x % 4) 1 (mod-lt x (zero-lt-suc 3)) (omega arith)
@@ -30,7 +30,7 @@ mask-step x m =
     low y = omega arith
 
 -- a bit or two places on is two places on and a bit
-turned : (u : ℕ) → u / 2 / 4 ≡ u / 4 / 2
+pub turned : (u : ℕ) → u / 2 / 4 ≡ u / 4 / 2
 turned u = omega arith
 
 both-step : (u m : ℕ) → bitAnd (bitAnd u (u / 2)) (m * 4 + 1) ≡ bitAnd (bitAnd (u / 4) (u / 4 / 2)) m * 4 + bitAnd (u % 2) (u / 2 % 2)
@@ -108,7 +108,7 @@ all-of a m c l = go (eqb a m) refl (eqb c 1) refl
         ne-eqb (a * 4 + c) (m * 4 + 1) (λ (h : a * 4 + c ≡ m * 4 + 1). y (omega arith))
 
 -- field i + 1 of u is field i of u without its lowest pair
-code-up : (u i : ℕ) → codeAt u (i + 1) ≡ codeAt (u / 4) i
+pub code-up : (u i : ℕ) → codeAt u (i + 1) ≡ codeAt (u / 4) i
 code-up u i =
     let e : 2 * (i + 1) ≡ 2 + 2 * i = omega arith in
     ap (λ (x : ℕ). u / x % 4) (ap (λ (y : ℕ). 2 ^ y) e ∙ pow-add 2 2 (2 * i)) ∙ ap (λ (x : ℕ). x % 4) (sym (div-div-eq-div-mul u 4 (2 ^ (2 * i))))

@@ -1,6 +1,6 @@
 // 3: the codes and units of a node.
 ghost use mathlib.Core.Path.{_≡_};
-ghost use Prim.Native.Nat.{_≤_};
+ghost use Prim.Native.Nat.{_≤_, _<_};
 ghost use Rattle.style.specs.Codes.{unitOf};
 ghost use Rattle.steps.specs.Scan.{lowest, some};
 ghost use Rattle.steps.specs.Page.{nodesIn};
@@ -13,6 +13,7 @@ use style::flag;
 use style::number;
 use style::unit;
 use style::word;
+use style::word_in;
 use tree::NodeId;
 
 // 3: one of a node's 22 units, of its two unit words. A shift lays the two bits of each field over one another, a
@@ -79,11 +80,12 @@ fn bad_align(w: u32) -> bool
 
 // 3, of node i's words.
 fn bad_codes(words: &[u32], i: usize) -> bool
+    requires { ⌜ i < nodesIn (now words) ⌝ }
     ensures { λ r. ⌜ r ≡ badCodes (now (words .entry)) i ⌝ }
 {
-    let style = word(words, i, 1);
-    let u = word(words, i, 2);
-    let v = word(words, i, 3);
+    let style = word_in(words, i, 1);
+    let u = word_in(words, i, 2);
+    let v = word_in(words, i, 3);
     if code(style, 0) == 3 {
         return true;
     }
@@ -128,6 +130,7 @@ fn ratio_beside_fraction(words: &[u32], numbers: &[f32], i: usize) -> bool
 
 // 3, of node i.
 fn bad_style(words: &[u32], numbers: &[f32], i: usize) -> bool
+    requires { ⌜ i < nodesIn (now words) ⌝ }
     ensures { λ r. ⌜ r ≡ badStyle (now (words .entry)) (now (numbers .entry)) i ⌝ }
 {
     if ratio_beside_fraction(words, numbers, i) {

@@ -5,7 +5,7 @@ ghost use Rattle.steps.specs.Noes.{recordsIn};
 ghost use Rattle.tables.specs.Walk.{countedBy, passedBy, NeededIn};
 use style::Flow;
 use style::flow_at;
-use style::word;
+use style::word_in;
 
 // 5: a shown out-of-flow child is one candidate.
 fn counted(flow: Flow) -> usize
@@ -38,8 +38,8 @@ pub(crate) fn count_needed(words: &[u32]) -> usize
     let mut i = 1;
     let mut count = 0;
     while i < n {
-        let flow = flow_at(word(words, i, 1));
-        let size = word(words, i, 0) as usize;
+        let flow = flow_at(word_in(words, i, 1));
+        let size = word_in(words, i, 0) as usize;
         count += counted(flow);
         i += passed(flow, size);
     }

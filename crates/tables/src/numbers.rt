@@ -1,19 +1,19 @@
 // 4: the numbers of a node, and those of the question.
 ghost use mathlib.Core.Path.{_≡_};
 ghost use mathlib.Core.Bool.{true, false};
-ghost use Prim.Native.Nat.{_+_, _-_, _≤_};
+ghost use Prim.Native.Nat.{_+_, _-_, _≤_, _<_};
 ghost use Rattle.style.specs.Codes.{unitOf};
 ghost use Rattle.style.specs.Style.{wordAt, planeOf, numberAt};
 ghost use Rattle.steps.specs.Scan.{scan, lowest, some};
 ghost use Rattle.steps.specs.Page.{nodesIn};
 ghost use Rattle.steps.specs.Noes.{mostOf, badField, badPixels, badRatio, badNumbers, badOption, badQuestion};
-ghost use Rattle.tables.specs.Runs.{badIn};
+ghost use Rattle.tables.specs.Runs.{badIn, past, pastPixels};
 use limits::in_range;
 use steps::Found;
 use steps::LayoutInput;
 use style::code;
 use style::number_in;
-use style::word;
+use style::word_in;
 use tree::NodeId;
 use util::OptionF32;
 use util::pick;
@@ -69,13 +69,43 @@ fn some_bad_in(
     false
 }
 
-// 4: one of node i's 22 lengths.
-fn some_bad_field(words: &[u32], numbers: &[f32], n: usize, i: usize) -> bool
-    requires { ⌜ n ≡ planeOf (now numbers) ⌝ }
-    ensures { λ r. ⌜ r ≡ some (λ f. badField f (unitOf (wordAt (now (words .entry)) i 2) (wordAt (now (words .entry)) i 3) f) (numberAt (now (numbers .entry)) i f)) 22 ⌝ }
+// 4: one of node i's numbers from .. to is below the least or past 65,536.
+fn some_past(numbers: &[f32], n: usize, i: usize, from: usize, to: usize, least: f32) -> bool
+    requires { ⌜ (n ≡ planeOf (now numbers)) × ((from ≤ to) × (to ≤ 22)) ⌝ }
+    ensures { λ r. ⌜ r ≡ scan (past least (now (numbers .entry)) i) (λ _. true) false from (to - from) ⌝ }
 {
-    let u = word(words, i, 2);
-    let v = word(words, i, 3);
+    let mut f = from;
+    while f < to {
+        if !in_range(number_in(numbers, n, i, f), least, 65536.0) {
+            return true;
+        }
+        f += 1;
+    }
+    false
+}
+
+// 4: one of node i's 22 lengths, none of which is a fraction: the limits are those of pixels.
+fn some_bad_pixels(numbers: &[f32], n: usize, i: usize) -> bool
+    requires { ⌜ n ≡ planeOf (now numbers) ⌝ }
+    ensures { λ r. ⌜ r ≡ pastPixels (now (numbers .entry)) i ⌝ }
+{
+    if some_past(numbers, n, i, 0, 6, 0.0) {
+        return true;
+    }
+    if some_past(numbers, n, i, 6, 10, -65536.0) {
+        return true;
+    }
+    if some_past(numbers, n, i, 10, 18, 0.0) {
+        return true;
+    }
+    some_past(numbers, n, i, 18, 22, -65536.0)
+}
+
+// 4: one of node i's 22 lengths, each with the limit of its unit.
+fn some_bad_length(u: u32, v: u32, numbers: &[f32], n: usize, i: usize) -> bool
+    requires { ⌜ n ≡ planeOf (now numbers) ⌝ }
+    ensures { λ r. ⌜ r ≡ some (λ f. badField f (unitOf u v f) (numberAt (now (numbers .entry)) i f)) 22 ⌝ }
+{
     if some_bad_in(u, 0, false, numbers, n, i, 0, 6) {
         return true;
     }
@@ -91,9 +121,25 @@ fn some_bad_field(words: &[u32], numbers: &[f32], n: usize, i: usize) -> bool
     some_bad_in(v, 14, true, numbers, n, i, 18, 22)
 }
 
+// 4: one of node i's 22 lengths. Most nodes have no fraction, and then one limit serves all: a fraction has the upper
+// bit of its unit, and a mask finds it.
+fn some_bad_field(words: &[u32], numbers: &[f32], n: usize, i: usize) -> bool
+    requires { ⌜ (n ≡ planeOf (now numbers)) × (i < nodesIn (now words)) ⌝ }
+    ensures { λ r. ⌜ r ≡ some (λ f. badField f (unitOf (wordAt (now (words .entry)) i 2) (wordAt (now (words .entry)) i 3) f) (numberAt (now (numbers .entry)) i f)) 22 ⌝ }
+{
+    let u = word_in(words, i, 2);
+    let v = word_in(words, i, 3);
+    if ((u >> 1) & 0x0555_5555) == 0 {
+        if ((v >> 1) & 0x5555) == 0 {
+            return some_bad_pixels(numbers, n, i);
+        }
+    }
+    some_bad_length(u, v, numbers, n, i)
+}
+
 // 4, of node i.
 fn bad_numbers(words: &[u32], numbers: &[f32], n: usize, i: usize) -> bool
-    requires { ⌜ n ≡ planeOf (now numbers) ⌝ }
+    requires { ⌜ (n ≡ planeOf (now numbers)) × (i < nodesIn (now words)) ⌝ }
     ensures { λ r. ⌜ r ≡ badNumbers (now (words .entry)) (now (numbers .entry)) i ⌝ }
 {
     if some_bad_field(words, numbers, n, i) {

@@ -8,7 +8,7 @@ ghost use Rattle.steps.specs.Page.{nodesIn};
 ghost use Rattle.tables.specs.TreeCheck.{nodeFault, CheckedPart};
 use steps::Found;
 use style::code;
-use style::word;
+use style::word_in;
 use tree::NodeId;
 
 // 2: a leaf above size 1.
@@ -42,8 +42,8 @@ pub(crate) fn below(words: &[u32], base: usize, depth: u32) -> Found
     let n = words.len() / 4;
     let mut a = 0;
     while a < n {
-        let size = word(words, a, 0) as usize;
-        let style = word(words, a, 1);
+        let size = word_in(words, a, 0) as usize;
+        let style = word_in(words, a, 1);
         if node_fault(size, style, n - a, depth) {
             return Found::At(NodeId((base + a) as u32));
         }

@@ -6,7 +6,7 @@ use Prim.Native.Nat.{ℕ, _+_, _*_, _≤_}
 use lib.ListN.{length}
 use lib.Ieee.{Float, add, binary32}
 use Rattle.style.specs.Codes.{flagAt}
-use Rattle.style.specs.Style.{wordAt}
+use Rattle.style.specs.Style.{wordAt, planeOf}
 use Rattle.tree.specs.Tree.{Tree, Forest, countT, countF, depthT, depthF, flatT, flatF, mapF}
 use Rattle.tree.specs.Table.{Entry, from}
 use Rattle.steps.specs.Row.{Row, rowNumbers, rowWords}
@@ -46,18 +46,20 @@ pub record TabledF (ws : List ℕ) (xs rs : List Float) (ms es : List ℕ) (b : 
   pub rows-are : rs ≡ flatF oldNumbers ts
   pub marks-are : ms ≡ flatF oldWords ts
 
--- some tree has these tables; no deeper than `depth`, and its numbers are a page's
+-- some tree has these tables; no deeper than `depth`, its numbers are a page's, and each of its nodes has a place in the planes
 pub record IsTree (ws : List ℕ) (xs rs : List Float) (ms es : List ℕ) (b depth : ℕ) : Type 0 where
   pub tree : Tree Cell
   pub tabled : TabledT ws xs rs ms es b tree
   pub deep : depthT tree ≤ depth
   pub fit : b + countT tree ≤ 1024
+  pub reach : b + countT tree ≤ planeOf xs
 
 pub record IsForest (ws : List ℕ) (xs rs : List Float) (ms es : List ℕ) (b depth : ℕ) : Type 0 where
   pub forest : Forest Cell
   pub tabled : TabledF ws xs rs ms es b forest
   pub deep : depthF forest ≤ depth
   pub fit : b + countF forest ≤ 1024
+  pub reach : b + countF forest ≤ planeOf xs
 
 -- these are the sizes and rows of a forest of rows
 pub record RowsOf (ws : List ℕ) (rs : List Float) (ms : List ℕ) (ts : Forest Row) : Type 0 where

@@ -1,43 +1,44 @@
 // Step F: what an unknown width wants of the children (the crate's determine_content_based_container_width), and a leaf's width.
 ghost use mathlib.Core.Path.{_≡_};
-ghost use Rattle.steps.specs.Sizing.{insets};
-ghost use Rattle.style.specs.Flow.{flowOf};
+ghost use Rattle.geometry.specs.Geometry.{across};
+ghost use Rattle.reader.specs.Reader.{Reads, styleIn};
+ghost use Rattle.steps.specs.declared.Sizing.{Sizing};
 ghost use Rattle.steps.specs.Width.{sideMargins, outerOf, outerWidth, wantBy, wantSized, wantIn, wantOf, contentWidth, leafWidth};
 ghost use Rattle.steps.specs.Probe.{probeKnown, spaceIn, foundWidth};
 use geometry::Rect;
 use length::AvailableSpace;
+use reader::Reader;
 use steps::ProbeInput;
 use steps::Sizing;
 use steps::Want;
 use style::Flow;
 use style::Measure;
-use style::Style;
 use util::OptionF32;
 use util::OptionSize;
 
-fn side_margins(s: Style, basis: OptionF32) -> f32
-    ensures { λ r. ⌜ r ≡ sideMargins s basis ⌝ }
+fn side_margins(r: Reader, numbers: &[f32], basis: OptionF32) -> f32
+    requires { ⌜ Reads r (now numbers) ⌝ }
+    ensures { λ x. ⌜ x ≡ sideMargins (styleIn r (now (numbers .entry))) basis ⌝ }
 {
-    let m = s.margin;
-    let left = m.left;
-    let right = m.right;
-    length::resolve_or_zero(left, basis) + length::resolve_or_zero(right, basis)
+    length::resolve_or_zero(reader::margin_left(r, numbers), basis)
+        + length::resolve_or_zero(reader::margin_right(r, numbers), basis)
 }
 
-fn outer_of(z: Sizing, margins: f32, width: f32) -> f32
-    ensures { λ r. ⌜ r ≡ outerOf z margins width ⌝ }
+// Of a box with this padding+border across.
+fn outer_of(both: f32, margins: f32, width: f32) -> f32
+    ensures { λ r. ⌜ ((z : Sizing) → across (z .both) ≡ both → r ≡ outerOf z margins width) ⌝ }
 {
-    let both = z.both;
-    util::f32_max(width, both.horizontal_axis_sum()) + margins
+    util::f32_max(width, both) + margins
 }
 
 // Step F: a child's outer width, once its width is found.
-pub fn outer_width(s: Style, a: AvailableSpace, width: f32) -> f32
-    ensures { λ r. ⌜ r ≡ outerWidth s a width ⌝ }
+pub fn outer_width(r: Reader, numbers: &[f32], a: AvailableSpace, width: f32) -> f32
+    requires { ⌜ Reads r (now numbers) ⌝ }
+    ensures { λ x. ⌜ x ≡ outerWidth (styleIn r (now (numbers .entry))) a width ⌝ }
 {
     outer_of(
-        sizing::sizing_of(s, OptionF32::None),
-        side_margins(s, a.into_option()),
+        sizing::both_across(r, numbers, OptionF32::None),
+        side_margins(r, numbers, a.into_option()),
         width,
     )
 }
@@ -60,9 +61,10 @@ fn want_probe(z: Sizing, margins: f32, a: AvailableSpace) -> Want
 fn want_by(z: Sizing, margins: f32, a: AvailableSpace, width: OptionF32) -> Want
     ensures { λ r. ⌜ r ≡ wantBy z margins a width ⌝ }
 {
+    let both = z.both;
     match width {
         OptionF32::None => want_probe(z, margins, a),
-        OptionF32::Some(w) => Want::Outer(outer_of(z, margins, w)),
+        OptionF32::Some(w) => Want::Outer(outer_of(both.horizontal_axis_sum(), margins, w)),
     }
 }
 
@@ -78,25 +80,27 @@ fn want_sized(z: Sizing, margins: f32, a: AvailableSpace) -> Want
     want_by(z, margins, a, w.clamp(lo, hi))
 }
 
-fn want_in(f: Flow, s: Style, a: AvailableSpace) -> Want
-    ensures { λ r. ⌜ r ≡ wantIn f s a ⌝ }
+fn want_in(f: Flow, r: Reader, numbers: &[f32], a: AvailableSpace) -> Want
+    requires { ⌜ Reads r (now numbers) ⌝ }
+    ensures { λ w. ⌜ w ≡ wantIn f (styleIn r (now (numbers .entry))) a ⌝ }
 {
     match f {
         Flow::Gone => Want::Nothing,
         Flow::Out => Want::Nothing,
         Flow::In => want_sized(
-            sizing::sizing_of(s, OptionF32::None),
-            side_margins(s, a.into_option()),
+            sizing::sizing_of(r, numbers, OptionF32::None),
+            side_margins(r, numbers, a.into_option()),
             a,
         ),
     }
 }
 
 // Step F: what is wanted of a child.
-pub fn want_of(s: Style, a: AvailableSpace) -> Want
-    ensures { λ r. ⌜ r ≡ wantOf s a ⌝ }
+pub fn want_of(r: Reader, numbers: &[f32], a: AvailableSpace) -> Want
+    requires { ⌜ Reads r (now numbers) ⌝ }
+    ensures { λ w. ⌜ w ≡ wantOf (styleIn r (now (numbers .entry))) a ⌝ }
 {
-    want_in(style::flow_of(s), s, a)
+    want_in(style::flow_at(r.style), r, numbers, a)
 }
 
 fn content_width(z: Sizing, inset: Rect, most: f32) -> f32
@@ -114,31 +118,37 @@ fn content_width(z: Sizing, inset: Rect, most: f32) -> f32
 }
 
 // Step F: a definite available width first loses the insets.
-pub fn available_inside(s: Style, parent: OptionF32, a: AvailableSpace) -> AvailableSpace
-    ensures { λ r. ⌜ r ≡ spaceIn s parent a ⌝ }
+pub fn available_inside(
+    r: Reader,
+    numbers: &[f32],
+    parent: OptionF32,
+    a: AvailableSpace,
+) -> AvailableSpace
+    requires { ⌜ Reads r (now numbers) ⌝ }
+    ensures { λ s. ⌜ s ≡ spaceIn (styleIn r (now (numbers .entry))) parent a ⌝ }
 {
-    let z = sizing::sizing_of(s, parent);
-    let both = z.both;
-    a.less(sizing::content_box_inset(s, both).horizontal_axis_sum())
+    a.less(sizing::inset_across(r, numbers, parent))
 }
 
 // Step F: the width that the widest child gives.
-pub fn width_from(s: Style, parent: OptionF32, most: f32) -> f32
-    ensures { λ r. ⌜ r ≡ foundWidth s parent most ⌝ }
+pub fn width_from(r: Reader, numbers: &[f32], parent: OptionF32, most: f32) -> f32
+    requires { ⌜ Reads r (now numbers) ⌝ }
+    ensures { λ x. ⌜ x ≡ foundWidth (styleIn r (now (numbers .entry))) parent most ⌝ }
 {
-    let z = sizing::sizing_of(s, parent);
+    let z = sizing::sizing_of(r, numbers, parent);
     let both = z.both;
-    content_width(z, sizing::content_box_inset(s, both), most)
+    content_width(z, sizing::content_box_inset(r, numbers, both), most)
 }
 
 // The known sizes of a probed block.
-pub fn probe_known(s: Style, q: ProbeInput) -> OptionSize
-    ensures { λ r. ⌜ r ≡ probeKnown s q ⌝ }
+pub fn probe_known(r: Reader, numbers: &[f32], q: ProbeInput) -> OptionSize
+    requires { ⌜ Reads r (now numbers) ⌝ }
+    ensures { λ k. ⌜ k ≡ probeKnown (styleIn r (now (numbers .entry))) q ⌝ }
 {
     let height = q.height;
     sizing::known_dimensions(
-        s,
-        sizing::sizing_of(s, OptionF32::None),
+        reader::ratio(r, numbers),
+        sizing::sizing_of(r, numbers, OptionF32::None),
         OptionSize {
             width: OptionF32::None,
             height,

@@ -1,10 +1,14 @@
 use Rattle.steps.specs.Context.{plainBlock}
+use Rattle.reader.specs.Reader.{styleIn, flow-read, kind-read}
 use borrow.Author.Needs.{needs}
 use Rattle.frames.proofs.is_plain_block.Statement.{statement}
 use Rattle.frames.proofs.is_plain_block.Tie as tie
 
-flow-of-requires : tie.Need-flow-of-requires
-flow-of-requires c κs = search needs
+kind-of-requires : tie.Need-kind-of-requires
+kind-of-requires c κs = search needs
+
+flow-at-requires : tie.Need-flow-at-requires
+flow-at-requires c κs = search needs
 
 is-in-requires : tie.Need-is-in-requires
 is-in-requires c κs = search needs
@@ -14,24 +18,25 @@ is-leaf-requires c κs = search needs
 
 returns : tie.Need-returns
 unfolding plainBlock
-returns c = rw (← c .before .before .before .before .flow-of .ensures, ← c .before .before .before .is-in .ensures, c .before .before .if1 .taken, ← c .before .is-leaf .ensures, c .if2 .taken)
+returns c = λ xs. rw (flow-read (c .before .before .before .before .before .before .args .r) xs, kind-read (c .before .before .before .before .before .before .args .r) xs, ← c .before .before .before .before .flow-at .ensures, ← c .before .before .before .is-in .ensures, c .before .before .if1 .taken, ← c .before .before .before .before .before .kind-of .ensures, ← c .before .is-leaf .ensures, c .if2 .taken)
 
 establishes-new-bfc-requires : tie.Need-establishes-new-bfc-requires
 establishes-new-bfc-requires c κs = search needs
 
 returns-2 : tie.Need-returns-2
 unfolding plainBlock
-returns-2 c = rw (← c .before .before .before .before .before .flow-of .ensures, ← c .before .before .before .before .is-in .ensures, c .before .before .before .if1 .taken, ← c .before .before .is-leaf .ensures, c .before .if2 .left, c .establishes-new-bfc .ensures)
+returns-2 c = λ xs. rw (c .establishes-new-bfc .ensures xs, flow-read (c .before .before .before .before .before .before .before .args .r) xs, ← c .before .before .before .before .before .flow-at .ensures, ← c .before .before .before .before .is-in .ensures, c .before .before .before .if1 .taken, kind-read (c .before .before .before .before .before .before .before .args .r) xs, ← c .before .before .before .before .before .before .kind-of .ensures, ← c .before .before .is-leaf .ensures, c .before .if2 .left)
 
 returns-3 : tie.Need-returns-3
 unfolding plainBlock
-returns-3 c = rw (← c .before .before .flow-of .ensures, ← c .before .is-in .ensures, c .if1 .left)
+returns-3 c = λ xs. rw (flow-read (c .before .before .before .before .args .r) xs, ← c .before .before .flow-at .ensures, ← c .before .is-in .ensures, c .if1 .left)
 
 pub is-plain-block-spec : {M : Type 1} → statement M
 is-plain-block-spec =
     tie.close
     (tie.spec
-    flow-of-requires
+    kind-of-requires
+    flow-at-requires
     is-in-requires
     is-leaf-requires
     returns

@@ -11,11 +11,11 @@ is-some-requires c κs = search needs
 
 returns : tie.Need-returns
 unfolding ownEndOf
-returns c = rw (c .is-some .ensures, ← c .before .before .edge-adjoins .ensures, c .before .if1 .taken)
+returns c = λ s e. rw (c .is-some .ensures, ← c .before .before .edge-adjoins .ensures s e, c .before .if1 .taken)
 
 returns-2 : tie.Need-returns-2
 unfolding ownEndOf
-returns-2 c = rw (← c .before .edge-adjoins .ensures, c .if1 .left)
+returns-2 c = λ s e. rw (← c .before .edge-adjoins .ensures s e, c .if1 .left)
 
 pub own-end-spec : {M : Type 1} → statement M
 own-end-spec = tie.close (tie.spec edge-adjoins-requires is-some-requires returns returns-2)

@@ -9,15 +9,15 @@ content-height-requires c κs = search needs
 outer-height-requires : tie.Need-outer-height-requires
 outer-height-requires c κs = search needs
 
-output-of-requires : tie.Need-output-of-requires
-output-of-requires c κs = search needs
-
 shift-of-requires : tie.Need-shift-of-requires
 shift-of-requires c κs = search needs
 
+output-of-requires : tie.Need-output-of-requires
+output-of-requires c κs = search needs
+
 returns : tie.Need-returns
 unfolding finished
-returns c = rw (c .output-of .ensures, c .before .shift-of .ensures, c .before .before .outer-height .ensures, c .before .before .before .content-height .ensures)
+returns c = λ s q e. rw (c .output-of .ensures s q e, c .before .shift-of .ensures s q e, c .before .before .outer-height .ensures, c .before .before .before .content-height .ensures)
 
 pub finish-spec : {M : Type 1} → statement M
 finish-spec =

@@ -1,3 +1,6 @@
+use mathlib.Core.Path.{ap}
+use Rattle.heights.specs.Tail.{tailOf}
+use Rattle.heights.specs.declared.Tail.{Tail}
 use Rattle.steps.specs.Height.{stepM}
 use borrow.Author.Needs.{needs}
 use Rattle.heights.proofs.shift_of.Statement.{statement}
@@ -10,8 +13,8 @@ compute-alignment-offset-requires : tie.Need-compute-alignment-offset-requires
 compute-alignment-offset-requires c κs = search needs
 
 returns : tie.Need-returns
-unfolding stepM
-returns c = rw (c .compute-alignment-offset .ensures, c .before .vertical-axis-sum .ensures)
+unfolding stepM tailOf
+returns c = λ s q e. rw (c .compute-alignment-offset .ensures, c .before .vertical-axis-sum .ensures, ap (λ t. t .align) e, ap (λ t. t .safe) e)
 
 pub shift-of-spec : {M : Type 1} → statement M
 shift-of-spec =

@@ -1,4 +1,8 @@
-use mathlib.Core.Path.{sym, ap, _∙_}
+use Rattle.style.specs.Flow.{isLeaf}
+use Rattle.style.specs.declared.Measure.{Measure}
+use Rattle.steps.specs.Through.{leafOutput}
+use Rattle.reader.specs.Reader.{kind-at, flow-at, measure-at}
+use mathlib.Core.Path.{refl, sym, ap, _∙_}
 use Prim.Native.Nat.{_+_, _*_, _-_, _≤_, ℕ, _<_}
 use native.Mathlib.Omega.{arith}
 use borrow.Author.Needs.{needs}
@@ -21,20 +25,17 @@ use Rattle.measure.proofs.+measured+passed+stacked.Lts-passed as passed
 use Rattle.measure.proofs.stacked.Reads as stacked
 use Rattle.measure.proofs.stacked.Kinds as stacked-kinds
 use Rattle.measure.proofs.+measured+passed+stacked.Lts-stacked as stacked-lts
-use Rattle.frames.proofs.frame_of.Reads as frame-of-reads
-use Rattle.heights.proofs.finish.Reads as finish-reads
-use Rattle.heights.proofs.leaf_output.Reads as leaf-output-reads
-use Rattle.stacking.proofs.item_of.Reads as item-of-reads
+use Rattle.frames.proofs.frame_at.Reads as frame-at-reads
+use Rattle.heights.proofs.finish_at.Reads as finish-at-reads
+use Rattle.heights.proofs.leaf_at.Reads as leaf-at-reads
+use Rattle.stacking.proofs.item.plan_at.Reads as plan-at-reads
 use Rattle.stacking.proofs.past_aside.Reads as past-aside-reads
 use Rattle.stacking.proofs.past_hidden.Reads as past-hidden-reads
-use Rattle.stacking.proofs.child_input.Reads as child-input-reads
-use Rattle.compute.proofs.Asked.{asks}
 use Rattle.stacking.proofs.start_of.Reads as start-of-reads
 use Rattle.stacking.proofs.stepped_past.Reads as stepped-past-reads
-use Rattle.style.proofs.style_at.Reads as style-at-reads
 use Rattle.style.proofs.word.Reads as word-reads
-use Rattle.style.proofs.flow_of.Reads as flow-of-reads
-use Rattle.style.proofs.is_leaf.Reads as is-leaf-reads
+use Rattle.reader.proofs.flow.Reads as flow-reads
+use Rattle.reader.proofs.is_leaf.Reads as is-leaf-reads
 use Rattle.measure.proofs.+measured+passed+stacked.{statement}
 use Rattle.measure.proofs.+measured+passed+stacked.Tie.{close}
 
@@ -67,91 +68,82 @@ abbrev stacked-below : ℕ → In 2 stacked-kinds.ps
 stacked-below t = and 2 stacked-kinds.ps (falls 2 stacked-kinds.ps _<_ μ-stacked t) stacked.Pre
 
 abbrev measured-calls : ℕ → measured-lts.Claims
-measured-calls t = (style-at-reads.Asked, style-at-reads.Learnt, is-leaf-reads.Asked, is-leaf-reads.Learnt, leaf-output-reads.Asked, leaf-output-reads.Learnt, frame-of-reads.Asked, frame-of-reads.Learnt, stacked-below t, stacked.Post, finish-reads.Asked, finish-reads.Learnt)
-
-measured-style-at-requires : (t : ℕ) → measured-lts.Need-style-at-requires (measured-calls t) (measured-at t) measured.Post
-measured-style-at-requires t c κs = search needs
+measured-calls t = (is-leaf-reads.Asked, is-leaf-reads.Learnt, leaf-at-reads.Asked, leaf-at-reads.Learnt, frame-at-reads.Asked, frame-at-reads.Learnt, stacked-below t, stacked.Post, finish-at-reads.Asked, finish-at-reads.Learnt)
 
 measured-is-leaf-requires : (t : ℕ) → measured-lts.Need-is-leaf-requires (measured-calls t) (measured-at t) measured.Post
-measured-is-leaf-requires t c κs = search needs
+measured-is-leaf-requires t c κs = let f = facts _ _ _ _ (c .before .before .pre .1) in f .words-some
 
-measured-leaf-output-requires : (t : ℕ) → measured-lts.Need-leaf-output-requires (measured-calls t) (measured-at t) measured.Post
-measured-leaf-output-requires t c κs = search needs
+measured-leaf-at-requires : (t : ℕ) → measured-lts.Need-leaf-at-requires (measured-calls t) (measured-at t) measured.Post
+measured-leaf-at-requires t c κs = search needs
 
 measured-returns : (t : ℕ) → measured-lts.Need-returns (measured-calls t) (measured-at t) measured.Post
-measured-returns t c = let s = c .before .before .before .before .before .before .before in leaf-measured (s .args .words .now) (s .args .numbers .now) (s .args .base) _ (c .before .before .before .before .style-at .ensures) (s .args .q) (s .args .found) _ (sym (c .before .before .before .is-leaf .ensures) ∙ c .before .before .if1 .taken) (c .leaf-output .ensures)
+measured-returns t c = let s = c .before .before .before .before .before in leaf-measured (s .args .words .now) (s .args .numbers .now) (s .args .base) _ refl (s .args .q) (s .args .found) _ (ap isLeaf (sym (kind-at (s .args .words .now) (s .args .numbers .now) (s .args .base))) ∙ sym (c .before .before .is-leaf .ensures) ∙ c .before .if1 .taken) (c .leaf-at .ensures ∙ ap (λ (m : Measure). leafOutput m (s .args .q)) (measure-at (s .args .words .now) (s .args .numbers .now) (s .args .base)))
 
-measured-frame-of-requires : (t : ℕ) → measured-lts.Need-frame-of-requires (measured-calls t) (measured-at t) measured.Post
-measured-frame-of-requires t c κs = search needs
+measured-frame-at-requires : (t : ℕ) → measured-lts.Need-frame-at-requires (measured-calls t) (measured-at t) measured.Post
+measured-frame-at-requires t c κs = let f = facts _ _ _ _ (c .before .before .before .before .pre .1) in (f .words-some, f .reach)
 
 measured-sub-stacked : (t : ℕ) → measured-lts.Need-sub-stacked (measured-calls t) (measured-at t) measured.Post
-measured-sub-stacked t c = let f = facts _ _ _ _ (c .before .before .before .before .before .before .pre .1) in omega arith
+measured-sub-stacked t c = let f = facts _ _ _ _ (c .before .before .before .before .before .pre .1) in omega arith
 
 measured-part-stacked-start : (t : ℕ) → measured-lts.Need-part-stacked-start (measured-calls t) (measured-at t) measured.Post
-measured-part-stacked-start t c = let f = facts _ _ _ _ (c .before .before .before .before .before .before .pre .1) in omega arith
+measured-part-stacked-start t c = let f = facts _ _ _ _ (c .before .before .before .before .before .pre .1) in omega arith
 
 measured-part-stacked-end : (t : ℕ) → measured-lts.Need-part-stacked-end (measured-calls t) (measured-at t) measured.Post
-measured-part-stacked-end t c = let f = facts _ _ _ _ (c .before .before .before .before .before .before .pre .1) in omega arith
+measured-part-stacked-end t c = let f = facts _ _ _ _ (c .before .before .before .before .before .pre .1) in omega arith
 
 measured-add-stacked : (t : ℕ) → measured-lts.Need-add-stacked (measured-calls t) (measured-at t) measured.Post
-measured-add-stacked t c = let f = facts _ _ _ _ (c .before .before .before .before .before .before .before .pre .1) in omega arith
+measured-add-stacked t c = let f = facts _ _ _ _ (c .before .before .before .before .before .before .pre .1) in omega arith
 
 measured-sub-stacked-2 : (t : ℕ) → measured-lts.Need-sub-stacked-2 (measured-calls t) (measured-at t) measured.Post
-measured-sub-stacked-2 t c = let f = facts _ _ _ _ (c .before .before .before .before .before .before .before .pre .1) in omega arith
+measured-sub-stacked-2 t c = let f = facts _ _ _ _ (c .before .before .before .before .before .before .pre .1) in omega arith
 
 measured-stacked-requires : (t : ℕ) → measured-lts.Need-stacked-requires (measured-calls t) (measured-at t) measured.Post
-measured-stacked-requires t c κs = let f = facts _ _ _ _ (c .before .before .before .before .before .before .before .pre .1) in (omega (arith, c .before .before .before .before .before .before .before .pre .0), f .kids)
+measured-stacked-requires t c κs = let f = facts _ _ _ _ (c .before .before .before .before .before .before .pre .1) in (omega (arith, c .before .before .before .before .before .before .pre .0), f .kids)
 
-measured-finish-requires : (t : ℕ) → measured-lts.Need-finish-requires (measured-calls t) (measured-at t) measured.Post
-measured-finish-requires t c κs = search needs
+measured-finish-at-requires : (t : ℕ) → measured-lts.Need-finish-at-requires (measured-calls t) (measured-at t) measured.Post
+measured-finish-at-requires t c κs = let f = facts _ _ _ _ (c .before .before .before .before .before .before .before .pre .1) in (f .words-some, f .reach)
 
 measured-returns-2 : (t : ℕ) → measured-lts.Need-returns-2 (measured-calls t) (measured-at t) measured.Post
-measured-returns-2 t c = let s = c .before .before .before .before .before .before .before .before .before .before in block-measured (s .args .words .now) (s .args .numbers .now) (s .args .base) _ (c .before .before .before .before .before .before .before .style-at .ensures) (s .args .q) (s .args .found) _ _ _ (sym (c .before .before .before .before .before .before .is-leaf .ensures) ∙ c .before .before .before .before .before .if1 .left) (c .before .before .before .before .frame-of .ensures) (c .before .before .stacked .ensures) (c .before .finish .ensures)
+measured-returns-2 t c = let s = c .before .before .before .before .before .before .before .before .before in block-measured (s .args .words .now) (s .args .numbers .now) (s .args .base) _ refl (s .args .q) (s .args .found) _ _ _ (ap isLeaf (sym (kind-at (s .args .words .now) (s .args .numbers .now) (s .args .base))) ∙ sym (c .before .before .before .before .before .before .is-leaf .ensures) ∙ c .before .before .before .before .before .if1 .left) (c .before .before .before .before .frame-at .ensures) (c .before .before .stacked .ensures) (c .before .finish-at .ensures)
 
 abbrev passed-calls : ℕ → passed-lts.Claims
-passed-calls t = (style-at-reads.Asked, style-at-reads.Learnt, flow-of-reads.Asked, flow-of-reads.Learnt, past-hidden-reads.Asked, past-hidden-reads.Learnt, past-aside-reads.Asked, past-aside-reads.Learnt, item-of-reads.Asked, item-of-reads.Learnt, child-input-reads.Asked, child-input-reads.Learnt, measured-below t, measured.Post, stepped-past-reads.Asked, stepped-past-reads.Learnt)
+passed-calls t = (flow-reads.Asked, flow-reads.Learnt, past-hidden-reads.Asked, past-hidden-reads.Learnt, past-aside-reads.Asked, past-aside-reads.Learnt, plan-at-reads.Asked, plan-at-reads.Learnt, measured-below t, measured.Post, stepped-past-reads.Asked, stepped-past-reads.Learnt)
 
-passed-style-at-requires : (t : ℕ) → passed-lts.Need-style-at-requires (passed-calls t) (passed-at t) passed.Post
-passed-style-at-requires t c κs = search needs
-
-passed-flow-of-requires : (t : ℕ) → passed-lts.Need-flow-of-requires (passed-calls t) (passed-at t) passed.Post
-passed-flow-of-requires t c κs = search needs
+passed-flow-requires : (t : ℕ) → passed-lts.Need-flow-requires (passed-calls t) (passed-at t) passed.Post
+passed-flow-requires t c κs = let f = facts _ _ _ _ (c .before .before .pre .1 .0) in f .words-some
 
 passed-enum-told : (t : ℕ) → passed-lts.Need-enum-told (passed-calls t) (passed-at t) passed.Post
 passed-enum-told t c = search needs
 
 passed-past-hidden-requires : (t : ℕ) → passed-lts.Need-past-hidden-requires (passed-calls t) (passed-at t) passed.Post
-passed-past-hidden-requires t c κs = c .before .before .before .before .before .before .pre .1 .1
+passed-past-hidden-requires t c κs = c .before .before .before .before .before .pre .1 .1
 
 passed-enum-told-2 : (t : ℕ) → passed-lts.Need-enum-told-2 (passed-calls t) (passed-at t) passed.Post
 passed-enum-told-2 t c = search needs
 
 passed-past-aside-requires : (t : ℕ) → passed-lts.Need-past-aside-requires (passed-calls t) (passed-at t) passed.Post
-passed-past-aside-requires t c κs = c .before .before .before .before .before .before .pre .1 .1
+passed-past-aside-requires t c κs = c .before .before .before .before .before .pre .1 .1
 
 passed-enum-told-3 : (t : ℕ) → passed-lts.Need-enum-told-3 (passed-calls t) (passed-at t) passed.Post
 passed-enum-told-3 t c = search needs
 
-passed-child-input-requires : (t : ℕ) → passed-lts.Need-child-input-requires (passed-calls t) (passed-at t) passed.Post
-passed-child-input-requires t c κs = search needs
+passed-plan-at-requires : (t : ℕ) → passed-lts.Need-plan-at-requires (passed-calls t) (passed-at t) passed.Post
+passed-plan-at-requires t c κs = let f = facts _ _ _ _ (c .before .before .before .before .before .pre .1 .0) in (f .words-some, f .reach)
 
 passed-measured-requires : (t : ℕ) → passed-lts.Need-measured-requires (passed-calls t) (passed-at t) passed.Post
 passed-measured-requires t c κs = (omega (arith, c .before .before .before .before .before .before .before .before .pre .0), (c .before .before .before .before .before .before .before .before .pre .1 .0))
-
-passed-item-of-requires : (t : ℕ) → passed-lts.Need-item-of-requires (passed-calls t) (passed-at t) passed.Post
-passed-item-of-requires t c κs = search needs
 
 passed-stepped-past-requires : (t : ℕ) → passed-lts.Need-stepped-past-requires (passed-calls t) (passed-at t) passed.Post
 passed-stepped-past-requires t c κs = c .before .before .before .before .before .before .before .before .before .pre .1 .1
 
 passed-returns : (t : ℕ) → passed-lts.Need-returns (passed-calls t) (passed-at t) passed.Post
-passed-returns t c = let s = c .before .before .before .before .before .before .before in gone-passed (s .args .words .now) (s .args .numbers .now) (s .args .base) _ (c .before .before .before .before .style-at .ensures) (s .args .f) (s .args .c) _ (c .before .before .before .flow-of .ensures) _ (c .before .enum-told .given .1) (c .past-hidden .ensures)
+passed-returns t c = let s = c .before .before .before .before .before .before in gone-passed (s .args .words .now) (s .args .numbers .now) (s .args .base) _ refl (s .args .f) (s .args .c) _ (c .before .before .before .flow .ensures ∙ flow-at (s .args .words .now) (s .args .numbers .now) (s .args .base)) _ (c .before .enum-told .given .1) (c .past-hidden .ensures)
 
 passed-returns-2 : (t : ℕ) → passed-lts.Need-returns-2 (passed-calls t) (passed-at t) passed.Post
-passed-returns-2 t c = let s = c .before .before .before .before .before .before .before in out-passed (s .args .words .now) (s .args .numbers .now) (s .args .base) _ (c .before .before .before .before .style-at .ensures) (s .args .f) (s .args .c) _ (c .before .before .before .flow-of .ensures) _ (c .before .enum-told2 .given .1) (c .past-aside .ensures)
+passed-returns-2 t c = let s = c .before .before .before .before .before .before in out-passed (s .args .words .now) (s .args .numbers .now) (s .args .base) _ refl (s .args .f) (s .args .c) _ (c .before .before .before .flow .ensures ∙ flow-at (s .args .words .now) (s .args .numbers .now) (s .args .base)) _ (c .before .enum-told2 .given .1) (c .past-aside .ensures)
 
 passed-returns-3 : (t : ℕ) → passed-lts.Need-returns-3 (passed-calls t) (passed-at t) passed.Post
-passed-returns-3 t c = let s = c .before .before .before .before .before .before .before .before .before .before in in-passed (s .args .words .now) (s .args .numbers .now) (s .args .base) _ (c .before .before .before .before .before .before .before .style-at .ensures) (s .args .f) (s .args .c) _ (c .before .before .before .before .before .before .flow-of .ensures) _ _ _ _ (c .before .before .before .before .enum-told3 .given .1) (asks _ _ _ _ (c .before .before .child-input .ensures) (c .before .before .before .item-of .ensures)) (c .before .measured .ensures) (c .before .before .before .item-of .ensures) (c .stepped-past .ensures)
+passed-returns-3 t c = let s = c .before .before .before .before .before .before .before .before .before .before in in-passed (s .args .words .now) (s .args .numbers .now) (s .args .base) _ refl (s .args .f) (s .args .c) _ (c .before .before .before .before .before .before .before .flow .ensures ∙ flow-at (s .args .words .now) (s .args .numbers .now) (s .args .base)) _ _ _ _ (c .before .before .before .before .before .enum-told3 .given .1) (c .before .before .before .before .plan-at .ensures .0) (c .before .measured .ensures) (c .before .before .before .before .plan-at .ensures .1) (c .stepped-past .ensures)
 
 abbrev stacked-calls : ℕ → stacked-lts.Claims
 stacked-calls t = (start-of-reads.Asked, start-of-reads.Learnt, word-reads.Asked, word-reads.Learnt, passed-below t, passed.Post)
@@ -210,7 +202,7 @@ stacked-add-passed : (t : ℕ) → stacked-lts.Need-add-passed (stacked-calls t)
 stacked-add-passed t c = let f = stacked-turn t (c .before) in let w = c .before .before .before .before .before .before .before .pre .1 .fit in let v = c .before .before .before .before .before .before .before .pre .1 .sites .words-long in omega arith
 
 stacked-passed-requires : (t : ℕ) → stacked-lts.Need-passed-requires (stacked-calls t) (stacked-at t) stacked.Post stacked-Inv-loop stacked-μ-loop
-stacked-passed-requires t c κs = let s = c .before .before .before .before .before .before .before in let f = stacked-turn t (c .before) in let w = s .pre .1 .fit in let v = s .pre .1 .sites .words-long in let i = c .before .before .before .loop .inv in (omega (arith, s .pre .0), (record { tree = f .tree; sites = f .sites; deep = f .shallow (s .args .depth) (s .pre .1 .deep); fit = omega arith }, record { shown = omega (arith, i .1 .1); count = omega (arith, i .1 .0) }))
+stacked-passed-requires t c κs = let s = c .before .before .before .before .before .before .before in let f = stacked-turn t (c .before) in let w = s .pre .1 .fit in let v = s .pre .1 .sites .words-long in let i = c .before .before .before .loop .inv in (omega (arith, s .pre .0), (record { tree = f .tree; sites = f .sites; deep = f .shallow (s .args .depth) (s .pre .1 .deep); fit = omega arith; reach = omega (arith, s .pre .1 .reach) }, record { shown = omega (arith, i .1 .1); count = omega (arith, i .1 .0) }))
 
 stacked-loop-less : (t : ℕ) → stacked-lts.Need-loop-less (stacked-calls t) (stacked-at t) stacked.Post stacked-Inv-loop stacked-μ-loop
 stacked-loop-less t c = let f = stacked-turn t (c .before .before) in let w = c .before .before .before .before .before .before .before .before .pre .1 .fit in let v = c .before .before .before .before .before .before .before .before .pre .1 .sites .words-long in omega arith
@@ -225,31 +217,28 @@ pub +measured+passed+stacked-spec : {M : Type 1} → statement M
 +measured+passed+stacked-spec = close μ-measured μ-passed μ-stacked (λ t. measured-lts.spec (measured-calls t)
     (measured-at t)
     measured.Post
-    (measured-style-at-requires t)
     (measured-is-leaf-requires t)
-    (measured-leaf-output-requires t)
+    (measured-leaf-at-requires t)
     (measured-returns t)
-    (measured-frame-of-requires t)
+    (measured-frame-at-requires t)
     (measured-sub-stacked t)
     (measured-part-stacked-start t)
     (measured-part-stacked-end t)
     (measured-add-stacked t)
     (measured-sub-stacked-2 t)
     (measured-stacked-requires t)
-    (measured-finish-requires t)
+    (measured-finish-at-requires t)
     (measured-returns-2 t))
     (λ t. passed-lts.spec (passed-calls t)
     (passed-at t)
     passed.Post
-    (passed-style-at-requires t)
-    (passed-flow-of-requires t)
+    (passed-flow-requires t)
     (passed-enum-told t)
     (passed-past-hidden-requires t)
     (passed-enum-told-2 t)
     (passed-past-aside-requires t)
     (passed-enum-told-3 t)
-    (passed-item-of-requires t)
-    (passed-child-input-requires t)
+    (passed-plan-at-requires t)
     (passed-measured-requires t)
     (passed-stepped-past-requires t)
     (passed-returns t)

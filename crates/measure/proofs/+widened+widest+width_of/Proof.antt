@@ -1,3 +1,9 @@
+use mathlib.Core.Path.{refl}
+use Rattle.style.specs.Flow.{isLeaf}
+use Rattle.style.specs.declared.Measure.{Measure}
+use Rattle.style.specs.declared.Style.{Style}
+use Rattle.steps.specs.Width.{leafWidth}
+use Rattle.reader.specs.Reader.{kind-at, measure-at}
 use mathlib.Core.Path.{refl, sym, ap, _∙_}
 use Prim.Native.Nat.{_+_, _*_, _-_, _≤_, ℕ, _<_}
 use native.Mathlib.Omega.{arith}
@@ -20,11 +26,12 @@ use Rattle.measure.proofs.+widened+widest+width_of.Lts-widest as widest
 use Rattle.measure.proofs.width_of.Reads as width-of
 use Rattle.measure.proofs.width_of.Kinds as width-of-kinds
 use Rattle.measure.proofs.+widened+widest+width_of.Lts-width_of as width-of-lts
-use Rattle.style.proofs.style_at.Reads as style-at-reads
+use Rattle.reader.proofs.reader_at.Reads as reader-at-reads
+use Rattle.style.proofs.measure_at.Reads as measure-at-reads
 use Rattle.style.proofs.word.Reads as word-reads
 use Rattle.util.proofs.f32_max.Reads as f32-max-reads
 use Rattle.widths.proofs.available_inside.Reads as available-inside-reads
-use Rattle.style.proofs.is_leaf.Reads as is-leaf-reads
+use Rattle.reader.proofs.is_leaf.Reads as is-leaf-reads
 use Rattle.widths.proofs.leaf_width.Reads as leaf-width-reads
 use Rattle.widths.proofs.outer_width.Reads as outer-width-reads
 use Rattle.widths.proofs.probe_known.Reads as probe-known-reads
@@ -62,10 +69,10 @@ width-of-below t =
     and 2 width-of-kinds.ps (falls 2 width-of-kinds.ps _<_ μ-width-of t) width-of.Pre
 
 abbrev widened-calls : ℕ → widened-lts.Claims
-widened-calls t = (style-at-reads.Asked, style-at-reads.Learnt, want-of-reads.Asked, want-of-reads.Learnt, f32-max-reads.Asked, f32-max-reads.Learnt, width-of-below t, width-of.Post, outer-width-reads.Asked, outer-width-reads.Learnt)
+widened-calls t = (reader-at-reads.Asked, reader-at-reads.Learnt, want-of-reads.Asked, want-of-reads.Learnt, f32-max-reads.Asked, f32-max-reads.Learnt, width-of-below t, width-of.Post, outer-width-reads.Asked, outer-width-reads.Learnt)
 
-widened-style-at-requires : (t : ℕ) → widened-lts.Need-style-at-requires (widened-calls t) (widened-at t) widened.Post
-widened-style-at-requires t c κs = search needs
+widened-reader-at-requires : (t : ℕ) → widened-lts.Need-reader-at-requires (widened-calls t) (widened-at t) widened.Post
+widened-reader-at-requires t c κs = let f = facts _ _ _ _ (c .before .before .pre .1) in (f .words-some, f .reach)
 
 widened-want-of-requires : (t : ℕ) → widened-lts.Need-want-of-requires (widened-calls t) (widened-at t) widened.Post
 widened-want-of-requires t c κs = search needs
@@ -92,13 +99,13 @@ widened-f32-max-requires-2 : (t : ℕ) → widened-lts.Need-f32-max-requires-2 (
 widened-f32-max-requires-2 t c κs = search needs
 
 widened-returns : (t : ℕ) → widened-lts.Need-returns (widened-calls t) (widened-at t) widened.Post
-widened-returns t c = let s = c .before .before .before .before .before .before in nothing-widened (s .args .words .now) (s .args .numbers .now) (s .args .base) _ (c .before .before .before .style-at .ensures) (s .args .a) (s .args .most) _ (c .before .before .want-of .ensures) (c .enum-told .given .1)
+widened-returns t c = let s = c .before .before .before .before .before .before in nothing-widened (s .args .words .now) (s .args .numbers .now) (s .args .base) _ (c .before .before .before .reader-at .ensures .1) (s .args .a) (s .args .most) _ (c .before .before .want-of .ensures) (c .enum-told .given .1)
 
 widened-returns-2 : (t : ℕ) → widened-lts.Need-returns-2 (widened-calls t) (widened-at t) widened.Post
-widened-returns-2 t c = let s = c .before .before .before .before .before .before .before .before in outer-widened (s .args .words .now) (s .args .numbers .now) (s .args .base) _ (c .before .before .before .before .before .style-at .ensures) (s .args .a) (s .args .most) _ (c .before .before .before .before .want-of .ensures) _ _ (c .before .before .want .given .1) (c .f32-max .ensures)
+widened-returns-2 t c = let s = c .before .before .before .before .before .before .before .before in outer-widened (s .args .words .now) (s .args .numbers .now) (s .args .base) _ (c .before .before .before .before .before .reader-at .ensures .1) (s .args .a) (s .args .most) _ (c .before .before .before .before .want-of .ensures) _ _ (c .before .before .want .given .1) (c .f32-max .ensures)
 
 widened-returns-3 : (t : ℕ) → widened-lts.Need-returns-3 (widened-calls t) (widened-at t) widened.Post
-widened-returns-3 t c = let s = c .before .before .before .before .before .before .before .before .before .before in probe-widened (s .args .words .now) (s .args .numbers .now) (s .args .base) _ (c .before .before .before .before .before .before .before .style-at .ensures) (s .args .a) (s .args .most) _ (c .before .before .before .before .before .before .want-of .ensures) _ _ _ _ (c .before .before .before .before .want2 .given .1) (c .before .before .width-of .ensures) (c .before .outer-width .ensures) (c .f32-max2 .ensures)
+widened-returns-3 t c = let s = c .before .before .before .before .before .before .before .before .before .before in probe-widened (s .args .words .now) (s .args .numbers .now) (s .args .base) _ (c .before .before .before .before .before .before .before .reader-at .ensures .1) (s .args .a) (s .args .most) _ (c .before .before .before .before .before .before .want-of .ensures) _ _ _ _ (c .before .before .before .before .want2 .given .1) (c .before .before .width-of .ensures) (c .before .outer-width .ensures) (c .f32-max2 .ensures)
 
 abbrev widest-calls : ℕ → widest-lts.Claims
 widest-calls t = (word-reads.Asked, word-reads.Learnt, widened-below t, widened.Post)
@@ -154,7 +161,7 @@ widest-add-widened : (t : ℕ) → widest-lts.Need-add-widened (widest-calls t) 
 widest-add-widened t c = let f = widest-turn t (c .before) in let w = c .before .before .before .before .before .before .pre .1 .fit in let v = c .before .before .before .before .before .before .pre .1 .sites .words-long in omega arith
 
 widest-widened-requires : (t : ℕ) → widest-lts.Need-widened-requires (widest-calls t) (widest-at t) widest.Post widest-Inv-loop widest-μ-loop
-widest-widened-requires t c κs = let s = c .before .before .before .before .before .before in let f = widest-turn t (c .before) in let w = s .pre .1 .fit in let v = s .pre .1 .sites .words-long in (omega (arith, s .pre .0), record { tree = f .tree; sites = f .sites; deep = f .shallow (s .args .depth) (s .pre .1 .deep); fit = omega arith })
+widest-widened-requires t c κs = let s = c .before .before .before .before .before .before in let f = widest-turn t (c .before) in let w = s .pre .1 .fit in let v = s .pre .1 .sites .words-long in let u = s .pre .1 .reach in (omega (arith, s .pre .0), record { tree = f .tree; sites = f .sites; deep = f .shallow (s .args .depth) (s .pre .1 .deep); fit = omega arith; reach = omega arith })
 
 widest-loop-less : (t : ℕ) → widest-lts.Need-loop-less (widest-calls t) (widest-at t) widest.Post widest-Inv-loop widest-μ-loop
 widest-loop-less t c = let f = widest-turn t (c .before .before) in let w = c .before .before .before .before .before .before .before .pre .1 .fit in let v = c .before .before .before .before .before .before .before .pre .1 .sites .words-long in omega arith
@@ -166,19 +173,22 @@ widest-returns : (t : ℕ) → widest-lts.Need-returns (widest-calls t) (widest-
 widest-returns t c = λ ts h. wide-end _ _ _ _ ts _ _ (c .before .loop .inv .1 ts h) (c .loop-test .left)
 
 abbrev width-of-calls : ℕ → width-of-lts.Claims
-width-of-calls t = (style-at-reads.Asked, style-at-reads.Learnt, is-leaf-reads.Asked, is-leaf-reads.Learnt, leaf-width-reads.Asked, leaf-width-reads.Learnt, probe-known-reads.Asked, probe-known-reads.Learnt, available-inside-reads.Asked, available-inside-reads.Learnt, widest-below t, widest.Post, width-from-reads.Asked, width-from-reads.Learnt)
+width-of-calls t = (is-leaf-reads.Asked, is-leaf-reads.Learnt, measure-at-reads.Asked, measure-at-reads.Learnt, leaf-width-reads.Asked, leaf-width-reads.Learnt, reader-at-reads.Asked, reader-at-reads.Learnt, probe-known-reads.Asked, probe-known-reads.Learnt, available-inside-reads.Asked, available-inside-reads.Learnt, widest-below t, widest.Post, width-from-reads.Asked, width-from-reads.Learnt)
 
-width-of-style-at-requires : (t : ℕ) → width-of-lts.Need-style-at-requires (width-of-calls t) (width-of-at t) width-of.Post
-width-of-style-at-requires t c κs = search needs
+width-of-reader-at-requires : (t : ℕ) → width-of-lts.Need-reader-at-requires (width-of-calls t) (width-of-at t) width-of.Post
+width-of-reader-at-requires t c κs = let f = facts _ _ _ _ (c .before .before .before .before .pre .1) in (f .words-some, f .reach)
+
+width-of-measure-at-requires : (t : ℕ) → width-of-lts.Need-measure-at-requires (width-of-calls t) (width-of-at t) width-of.Post
+width-of-measure-at-requires t c κs = search needs
 
 width-of-is-leaf-requires : (t : ℕ) → width-of-lts.Need-is-leaf-requires (width-of-calls t) (width-of-at t) width-of.Post
-width-of-is-leaf-requires t c κs = search needs
+width-of-is-leaf-requires t c κs = let f = facts _ _ _ _ (c .before .before .pre .1) in f .words-some
 
 width-of-leaf-width-requires : (t : ℕ) → width-of-lts.Need-leaf-width-requires (width-of-calls t) (width-of-at t) width-of.Post
 width-of-leaf-width-requires t c κs = search needs
 
 width-of-returns : (t : ℕ) → width-of-lts.Need-returns (width-of-calls t) (width-of-at t) width-of.Post
-width-of-returns t c = let s = c .before .before .before .before .before .before .before in leaf-width (s .args .words .now) (s .args .numbers .now) (s .args .base) _ (c .before .before .before .before .style-at .ensures) (s .args .q) _ (sym (c .before .before .before .is-leaf .ensures) ∙ c .before .before .if1 .taken) (c .leaf-width .ensures)
+width-of-returns t c = let s = c .before .before .before .before .before .before in leaf-width (s .args .words .now) (s .args .numbers .now) (s .args .base) _ refl (s .args .q) _ (ap isLeaf (sym (kind-at (s .args .words .now) (s .args .numbers .now) (s .args .base))) ∙ sym (c .before .before .before .is-leaf .ensures) ∙ c .before .before .if1 .taken) (c .leaf-width .ensures ∙ ap (λ (m : Measure). leafWidth m (s .args .q .available)) (c .before .measure-at .ensures ∙ measure-at (s .args .words .now) (s .args .numbers .now) (s .args .base)))
 
 width-of-probe-known-requires : (t : ℕ) → width-of-lts.Need-probe-known-requires (width-of-calls t) (width-of-at t) width-of.Post
 width-of-probe-known-requires t c κs = search needs
@@ -214,16 +224,16 @@ width-of-width-from-requires : (t : ℕ) → width-of-lts.Need-width-from-requir
 width-of-width-from-requires t c κs = search needs
 
 width-of-returns-2 : (t : ℕ) → width-of-lts.Need-returns-2 (width-of-calls t) (width-of-at t) width-of.Post
-width-of-returns-2 t c = let s = c .before .before .before .before .before .before .before .before .before in known-width (s .args .words .now) (s .args .numbers .now) (s .args .base) _ (c .before .before .before .before .before .before .style-at .ensures) (s .args .q) _ _ (sym (c .before .before .before .before .before .is-leaf .ensures) ∙ c .before .before .before .before .if1 .left) (c .before .before .before .probe-known .ensures) (c .before .width .given .1)
+width-of-returns-2 t c = let s = c .before .before .before .before .before .before .before .before .before in known-width (s .args .words .now) (s .args .numbers .now) (s .args .base) _ (c .before .before .before .before .reader-at .ensures .1) (s .args .q) _ _ (ap (λ (y : Style). isLeaf (y .kind)) (c .before .before .before .before .reader-at .ensures .1) ∙ ap isLeaf (sym (kind-at (s .args .words .now) (s .args .numbers .now) (s .args .base))) ∙ sym (c .before .before .before .before .before .before .is-leaf .ensures) ∙ c .before .before .before .before .before .if1 .left) (c .before .before .before .probe-known .ensures) (c .before .width .given .1)
 
 width-of-returns-3 : (t : ℕ) → width-of-lts.Need-returns-3 (width-of-calls t) (width-of-at t) width-of.Post
-width-of-returns-3 t c = let s = c .before .before .before .before .before .before .before .before .before .before .before .before in inner-width (s .args .words .now) (s .args .numbers .now) (s .args .base) _ (c .before .before .before .before .before .before .before .before .before .style-at .ensures) (s .args .q) _ _ _ _ (sym (c .before .before .before .before .before .before .before .before .is-leaf .ensures) ∙ c .before .before .before .before .before .before .before .if1 .left) (c .before .before .before .before .before .before .probe-known .ensures) (c .before .before .before .before .enum-told .given .1) (c .before .before .before .available-inside .ensures) (c .before .widest .ensures) (c .width-from .ensures)
+width-of-returns-3 t c = let s = c .before .before .before .before .before .before .before .before .before .before .before .before in inner-width (s .args .words .now) (s .args .numbers .now) (s .args .base) _ (c .before .before .before .before .before .before .before .reader-at .ensures .1) (s .args .q) _ _ _ _ (ap (λ (y : Style). isLeaf (y .kind)) (c .before .before .before .before .before .before .before .reader-at .ensures .1) ∙ ap isLeaf (sym (kind-at (s .args .words .now) (s .args .numbers .now) (s .args .base))) ∙ sym (c .before .before .before .before .before .before .before .before .before .is-leaf .ensures) ∙ c .before .before .before .before .before .before .before .before .if1 .left) (c .before .before .before .before .before .before .probe-known .ensures) (c .before .before .before .before .enum-told .given .1) (c .before .before .before .available-inside .ensures) (c .before .widest .ensures) (c .width-from .ensures)
 
 pub +widened+widest+width-of-spec : {M : Type 1} → statement M
 +widened+widest+width-of-spec = close μ-widened μ-widest μ-width-of (λ t. widened-lts.spec (widened-calls t)
     (widened-at t)
     widened.Post
-    (widened-style-at-requires t)
+    (widened-reader-at-requires t)
     (widened-want-of-requires t)
     (widened-enum-told t)
     (widened-enum-known-want t)
@@ -260,10 +270,11 @@ pub +widened+widest+width-of-spec : {M : Type 1} → statement M
     λ t. width-of-lts.spec (width-of-calls t)
     (width-of-at t)
     width-of.Post
-    (width-of-style-at-requires t)
     (width-of-is-leaf-requires t)
+    (width-of-measure-at-requires t)
     (width-of-leaf-width-requires t)
     (width-of-returns t)
+    (width-of-reader-at-requires t)
     (width-of-probe-known-requires t)
     (width-of-enum-known-width t)
     (width-of-enum-told t)

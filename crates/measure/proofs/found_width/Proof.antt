@@ -14,8 +14,8 @@ enum-known-width c = search needs
 enum-told : tie.Need-enum-told
 enum-told c = search needs
 
-style-at-requires : tie.Need-style-at-requires
-style-at-requires c κs = search needs
+reader-at-requires : tie.Need-reader-at-requires
+reader-at-requires c κs = let f = facts _ _ _ _ (c .before .before .before .before .pre) in (f .words-some, f .reach)
 
 available-inside-requires : tie.Need-available-inside-requires
 available-inside-requires c κs = search needs
@@ -39,7 +39,7 @@ returns : tie.Need-returns
 returns c = λ t h. known-found (c .before .before .before .before .before .args .words .now) (c .before .before .before .before .before .args .numbers .now) (c .before .before .before .before .before .args .q) _ _ refl t h ∙ ap (λ (z : OptionF32). foundT t (c .before .before .before .before .before .args .q) z) (sym (c .before .width .given .1))
 
 returns-2 : tie.Need-returns-2
-returns-2 c = λ t h. inner-found (c .before .before .before .before .before .before .before .before .before .args .words .now) (c .before .before .before .before .before .before .before .before .before .args .numbers .now) 0 _ (c .before .before .before .before .style-at .ensures) (c .before .before .before .before .before .before .before .before .before .args .q) _ _ _ (c .before .before .before .available-inside .ensures) (c .before .widest .ensures) (c .width-from .ensures) t h ∙ ap (λ (z : OptionF32). foundT t (c .before .before .before .before .before .before .before .before .before .args .q) z) (sym (c .before .before .before .before .before .enum-told .given .1))
+returns-2 c = λ t h. inner-found (c .before .before .before .before .before .before .before .before .before .args .words .now) (c .before .before .before .before .before .before .before .before .before .args .numbers .now) 0 _ (c .before .before .before .before .reader-at .ensures .1) (c .before .before .before .before .before .before .before .before .before .args .q) _ _ _ (c .before .before .before .available-inside .ensures) (c .before .widest .ensures) (c .width-from .ensures) t h ∙ ap (λ (z : OptionF32). foundT t (c .before .before .before .before .before .before .before .before .before .args .q) z) (sym (c .before .before .before .before .before .enum-told .given .1))
 
 pub found-width-spec : {M : Type 1} → statement M
 found-width-spec =
@@ -47,7 +47,7 @@ found-width-spec =
     (tie.spec
     enum-known-width
     enum-told
-    style-at-requires
+    reader-at-requires
     available-inside-requires
     sub-widest
     part-widest-start

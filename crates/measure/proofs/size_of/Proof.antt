@@ -1,10 +1,11 @@
+use Rattle.measure.proofs.Sites.{facts}
 use Rattle.measure.proofs.PageSize.{size-open, size-known}
 use borrow.Author.Needs.{needs}
 use Rattle.measure.proofs.size_of.Statement.{statement}
 use Rattle.measure.proofs.size_of.Tie as tie
 
-style-at-requires : tie.Need-style-at-requires
-style-at-requires c κs = search needs
+reader-at-requires : tie.Need-reader-at-requires
+reader-at-requires c κs = let f = facts _ _ _ _ (c .before .before .pre) in (f .words-some, f .reach)
 
 sizing-of-requires : tie.Need-sizing-of-requires
 sizing-of-requires c κs = search needs
@@ -25,16 +26,16 @@ size-with-width-requires : tie.Need-size-with-width-requires
 size-with-width-requires c κs = search needs
 
 returns : tie.Need-returns
-returns c = size-open (c .before .before .before .before .before .before .before .before .before .args .words .now) (c .before .before .before .before .before .before .before .before .before .args .numbers .now) (c .before .before .before .before .before .before .before .before .before .args .q) (c .before .before .before .before .before .before .before .before .before .args .axis) _ _ _ (c .before .before .before .before .before .before .style-at .ensures) (c .before .before .before .before .sizing-of .ensures) _ (c .before .before .before .known-by-style .ensures) (c .before .enum-told .given .1) (c .size-below .ensures)
+returns c = size-open (c .before .before .before .before .before .before .before .before .before .args .words .now) (c .before .before .before .before .before .before .before .before .before .args .numbers .now) (c .before .before .before .before .before .before .before .before .before .args .q) (c .before .before .before .before .before .before .before .before .before .args .axis) _ _ _ (c .before .before .before .before .before .before .reader-at .ensures .1) (c .before .before .before .before .sizing-of .ensures) _ (c .before .before .before .known-by-style .ensures) (c .before .enum-told .given .1) (c .size-below .ensures)
 
 returns-2 : tie.Need-returns-2
-returns-2 c = size-known (c .before .before .before .before .before .before .before .before .before .before .args .words .now) (c .before .before .before .before .before .before .before .before .before .before .args .numbers .now) (c .before .before .before .before .before .before .before .before .before .before .args .q) (c .before .before .before .before .before .before .before .before .before .before .args .axis) _ _ _ (c .before .before .before .before .before .before .before .style-at .ensures) (c .before .before .before .before .before .sizing-of .ensures) _ _ (c .before .before .before .before .known-by-style .ensures) (c .before .before .width .given .1) (c .size-with-width .ensures)
+returns-2 c = size-known (c .before .before .before .before .before .before .before .before .before .before .args .words .now) (c .before .before .before .before .before .before .before .before .before .before .args .numbers .now) (c .before .before .before .before .before .before .before .before .before .before .args .q) (c .before .before .before .before .before .before .before .before .before .before .args .axis) _ _ _ (c .before .before .before .before .before .before .before .reader-at .ensures .1) (c .before .before .before .before .before .sizing-of .ensures) _ _ (c .before .before .before .before .known-by-style .ensures) (c .before .before .width .given .1) (c .size-with-width .ensures)
 
 pub size-of-spec : {M : Type 1} → statement M
 size-of-spec =
     tie.close
     (tie.spec
-    style-at-requires
+    reader-at-requires
     sizing-of-requires
     known-by-style-requires
     enum-told

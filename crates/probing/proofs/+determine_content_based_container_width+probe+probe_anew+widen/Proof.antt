@@ -4,6 +4,11 @@ use borrow.Author.Needs.{needs}
 use lib.ListN.{length}
 use Rattle.tree.specs.Tree.{Forest}
 use Rattle.steps.specs.Page.{Cell}
+use Rattle.style.specs.Flow.{isLeaf}
+use Rattle.style.specs.declared.Measure.{Measure}
+use Rattle.style.specs.declared.Style.{Style}
+use Rattle.steps.specs.Width.{leafWidth}
+use Rattle.reader.specs.Reader.{kind-at, measure-at}
 use Rattle.walks.specs.Tables.{TabledF}
 use Rattle.walks.proofs.Given.{facts}
 use Rattle.probing.proofs.WidestLoop.{Rest, Turn, begin, turn, end}
@@ -27,11 +32,12 @@ use Rattle.probing.proofs.clear_rest.Reads as clear-rest-reads
 use Rattle.probing.proofs.stands.Reads as stands-reads
 use Rattle.rows.proofs.clear_probes.Reads as clear-probes-reads
 use Rattle.rows.proofs.note_probe.Reads as note-probe-reads
-use Rattle.style.proofs.style_at.Reads as style-at-reads
-use Rattle.style.proofs.word.Reads as word-reads
+use Rattle.reader.proofs.reader_at.Reads as reader-at-reads
+use Rattle.style.proofs.measure_at.Reads as measure-at-reads
+use Rattle.style.proofs.word_in.Reads as word-in-reads
 use Rattle.util.proofs.f32_max.Reads as f32-max-reads
 use Rattle.widths.proofs.available_inside.Reads as available-inside-reads
-use Rattle.style.proofs.is_leaf.Reads as is-leaf-reads
+use Rattle.reader.proofs.is_leaf.Reads as is-leaf-reads
 use Rattle.widths.proofs.leaf_width.Reads as leaf-width-reads
 use Rattle.widths.proofs.outer_width.Reads as outer-width-reads
 use Rattle.widths.proofs.probe_known.Reads as probe-known-reads
@@ -86,14 +92,14 @@ abbrev widest-μ-loop : widest-lts.MeasureT-loop
 widest-μ-loop words numbers rows₀ marks₀ edits base depth a most₀ i₀ rows marks most i = length words - i
 
 abbrev widest-calls : ℕ → widest-lts.Claims
-widest-calls t = (word-reads.Asked, word-reads.Learnt, widen-below t, widen.Post)
+widest-calls t = (word-in-reads.Asked, word-in-reads.Learnt, widen-below t, widen.Post)
 
 -- a turn of the loop, at the forest that the `requires` gives
-widest-turn : (t : ℕ) (c : widest-lts.After-word (widest-calls t) (widest-at t) widest.Post widest-Inv-loop widest-μ-loop)
-    → Turn (c .before .before .before .before .before .before .before .before .args .words .now) (c .before .before .before .before .before .before .before .before .args .numbers .now) (c .before .before .loop .rows) (c .before .before .loop .marks) (c .before .before .before .before .before .before .before .before .args .edits .now) (c .before .before .before .before .before .before .before .before .args .base) (c .before .before .before .before .before .before .before .before .args .a) (c .before .before .before .before .before .before .before .before .pre .1 .forest) (c .before .before .loop .most) (c .before .before .loop .i) (c .before .before .loop .i + c .word .result)
+widest-turn : (t : ℕ) (c : widest-lts.After-word-in (widest-calls t) (widest-at t) widest.Post widest-Inv-loop widest-μ-loop)
+    → Turn (c .before .before .before .before .before .before .before .before .args .words .now) (c .before .before .before .before .before .before .before .before .args .numbers .now) (c .before .before .loop .rows) (c .before .before .loop .marks) (c .before .before .before .before .before .before .before .before .args .edits .now) (c .before .before .before .before .before .before .before .before .args .base) (c .before .before .before .before .before .before .before .before .args .a) (c .before .before .before .before .before .before .before .before .pre .1 .forest) (c .before .before .loop .most) (c .before .before .loop .i) (c .before .before .loop .i + c .word-in .result)
 widest-turn t c =
     let s = c .before .before .before .before .before .before .before .before .pre .1 in
-    turn _ _ _ _ _ _ _ (s .forest) _ _ _ (ap (λ (k : ℕ). c .before .before .loop .i + k) (c .word .ensures)) (c .before .before .loop .inv .3 (s .forest) (s .tabled)) (c .before .loop-test .taken)
+    turn _ _ _ _ _ _ _ (s .forest) _ _ _ (ap (λ (k : ℕ). c .before .before .loop .i + k) (c .word-in .ensures)) (c .before .before .loop .inv .3 (s .forest) (s .tabled)) (c .before .loop-test .taken)
 
 widest-loop-holds : (t : ℕ) → widest-lts.Need-loop-holds (widest-calls t) (widest-at t) widest.Post widest-Inv-loop widest-μ-loop
 widest-loop-holds t c = let s = c .before .before .before .before .before in (refl, refl, omega arith, begin (s .args .words .now) (s .args .numbers .now) (s .args .rows .now) (s .args .marks .now) (s .args .edits .now) (s .args .base) (s .args .a))
@@ -101,8 +107,8 @@ widest-loop-holds t c = let s = c .before .before .before .before .before in (re
 widest-mul-loop : (t : ℕ) → widest-lts.Need-mul-loop (widest-calls t) (widest-at t) widest.Post widest-Inv-loop widest-μ-loop
 widest-mul-loop t c = let w = c .before .before .before .before .before .before .pre .1 .fit in let v = c .before .before .before .before .before .before .pre .1 .tabled .words-long in omega (arith, c .loop .inv .2)
 
-widest-word-requires : (t : ℕ) → widest-lts.Need-word-requires (widest-calls t) (widest-at t) widest.Post widest-Inv-loop widest-μ-loop
-widest-word-requires t c κs = search needs
+widest-word-in-requires : (t : ℕ) → widest-lts.Need-word-in-requires (widest-calls t) (widest-at t) widest.Post widest-Inv-loop widest-μ-loop
+widest-word-in-requires t c κs = omega (arith, c .loop-test .taken)
 
 widest-cast-e : (t : ℕ) → widest-lts.Need-cast-e (widest-calls t) (widest-at t) widest.Post widest-Inv-loop widest-μ-loop
 widest-cast-e t c = let f = widest-turn t (c) in let w = c .before .before .before .before .before .before .before .before .pre .1 .fit in let v = c .before .before .before .before .before .before .before .before .pre .1 .tabled .words-long in omega arith
@@ -168,13 +174,13 @@ widest-add-widen : (t : ℕ) → widest-lts.Need-add-widen (widest-calls t) (wid
 widest-add-widen t c = let f = widest-turn t (c .before .before .before) in let w = c .before .before .before .before .before .before .before .before .before .before .before .pre .1 .fit in let v = c .before .before .before .before .before .before .before .before .before .before .before .pre .1 .tabled .words-long in omega arith
 
 widest-widen-requires : (t : ℕ) → widest-lts.Need-widen-requires (widest-calls t) (widest-at t) widest.Post widest-Inv-loop widest-μ-loop
-widest-widen-requires t c κs = let s = c .before .before .before .before .before .before .before .before .before .before .before in let f = widest-turn t (c .before .before .before) in let w = s .pre .1 .fit in let v = s .pre .1 .tabled .words-long in (omega (arith, s .pre .0), record { tree = f .tree; tabled = f .tabled; deep = f .shallow (s .args .depth) (s .pre .1 .deep); fit = omega arith })
+widest-widen-requires t c κs = let s = c .before .before .before .before .before .before .before .before .before .before .before in let f = widest-turn t (c .before .before .before) in let w = s .pre .1 .fit in let v = s .pre .1 .tabled .words-long in let u = s .pre .1 .reach in (omega (arith, s .pre .0), record { tree = f .tree; tabled = f .tabled; deep = f .shallow (s .args .depth) (s .pre .1 .deep); fit = omega arith; reach = omega arith })
 
 widest-loop-less : (t : ℕ) → widest-lts.Need-loop-less (widest-calls t) (widest-at t) widest.Post widest-Inv-loop widest-μ-loop
 widest-loop-less t c = let f = widest-turn t (c .before .before .before .before .before .before .before .before) in let w = c .before .before .before .before .before .before .before .before .before .before .before .before .before .before .before .before .pre .1 .fit in let v = c .before .before .before .before .before .before .before .before .before .before .before .before .before .before .before .before .pre .1 .tabled .words-long in omega arith
 
 widest-loop-again : (t : ℕ) → widest-lts.Need-loop-again (widest-calls t) (widest-at t) widest.Post widest-Inv-loop widest-μ-loop
-widest-loop-again t c = let f = widest-turn t (c .before .before .before .before .before .before .before .before) in (omega arith, omega arith, omega arith, λ ts h. let g = turn _ _ _ _ _ _ _ ts _ _ _ (ap (λ (k : ℕ). c .before .before .before .before .before .before .before .before .before .before .loop .i + k) (c .before .before .before .before .before .before .before .before .word .ensures)) (c .before .before .before .before .before .before .before .before .before .before .loop .inv .3 ts h) (c .before .before .before .before .before .before .before .before .before .loop-test .taken) in g .next _ _ _ (c .before .before .before .before .widen .ensures (g .tree) (g .tabled)))
+widest-loop-again t c = let f = widest-turn t (c .before .before .before .before .before .before .before .before) in (omega arith, omega arith, omega arith, λ ts h. let g = turn _ _ _ _ _ _ _ ts _ _ _ (ap (λ (k : ℕ). c .before .before .before .before .before .before .before .before .before .before .loop .i + k) (c .before .before .before .before .before .before .before .before .word-in .ensures)) (c .before .before .before .before .before .before .before .before .before .before .loop .inv .3 ts h) (c .before .before .before .before .before .before .before .before .before .loop-test .taken) in g .next _ _ _ (c .before .before .before .before .widen .ensures (g .tree) (g .tabled)))
 
 widest-same-length : (t : ℕ) → widest-lts.Need-same-length (widest-calls t) (widest-at t) widest.Post widest-Inv-loop widest-μ-loop
 widest-same-length t c = c .before .loop .inv .0
@@ -219,28 +225,31 @@ probe-returns-2 : (t : ℕ) → probe-lts.Need-returns-2 (probe-calls t) (probe-
 probe-returns-2 t c = let s = c .before .before .before .before .before .before .before .before .before .before .before .before .before .before .before .before .before .before .before .before .before .before .before in probe-noted (s .args .words .now) (s .args .numbers .now) (s .args .rows .now) (s .args .marks .now) (s .args .edits .now) (s .args .base) (s .args .q) _ _ _ _ _ _ (c .before .before .before .before .before .before .before .before .before .before .before .before .before .before .before .stands .ensures) (c .before .before .before .before .before .before .before .before .before .before .before .before .before .before .if1 .left) (c .before .before .before .before .before .before .before .before .before .before .before .probe-anew .ensures) (c .before .before .before .before .note-probe .ensures)
 
 abbrev probe-anew-calls : ℕ → probe-anew-lts.Claims
-probe-anew-calls t = (style-at-reads.Asked, style-at-reads.Learnt, is-leaf-reads.Asked, is-leaf-reads.Learnt, clear-rest-reads.Asked, clear-rest-reads.Learnt, leaf-width-reads.Asked, leaf-width-reads.Learnt, probe-known-reads.Asked, probe-known-reads.Learnt, available-inside-reads.Asked, available-inside-reads.Learnt, widest-below t, widest.Post, width-from-reads.Asked, width-from-reads.Learnt)
+probe-anew-calls t = (is-leaf-reads.Asked, is-leaf-reads.Learnt, clear-rest-reads.Asked, clear-rest-reads.Learnt, measure-at-reads.Asked, measure-at-reads.Learnt, leaf-width-reads.Asked, leaf-width-reads.Learnt, reader-at-reads.Asked, reader-at-reads.Learnt, probe-known-reads.Asked, probe-known-reads.Learnt, available-inside-reads.Asked, available-inside-reads.Learnt, widest-below t, widest.Post, width-from-reads.Asked, width-from-reads.Learnt)
 
-probe-anew-style-at-requires : (t : ℕ) → probe-anew-lts.Need-style-at-requires (probe-anew-calls t) (probe-anew-at t) probe-anew.Post
-probe-anew-style-at-requires t c κs = search needs
+probe-anew-reader-at-requires : (t : ℕ) → probe-anew-lts.Need-reader-at-requires (probe-anew-calls t) (probe-anew-at t) probe-anew.Post
+probe-anew-reader-at-requires t c κs = let f = facts _ _ _ _ _ _ _ (c .before .before .before .before .before .before .before .pre .1) in (f .words-some, f .reach)
+
+probe-anew-measure-at-requires : (t : ℕ) → probe-anew-lts.Need-measure-at-requires (probe-anew-calls t) (probe-anew-at t) probe-anew.Post
+probe-anew-measure-at-requires t c κs = search needs
 
 probe-anew-is-leaf-requires : (t : ℕ) → probe-anew-lts.Need-is-leaf-requires (probe-anew-calls t) (probe-anew-at t) probe-anew.Post
-probe-anew-is-leaf-requires t c κs = search needs
+probe-anew-is-leaf-requires t c κs = let f = facts _ _ _ _ _ _ _ (c .before .before .before .before .before .pre .1) in f .words-some
 
 probe-anew-clear-rest-requires : (t : ℕ) → probe-anew-lts.Need-clear-rest-requires (probe-anew-calls t) (probe-anew-at t) probe-anew.Post
-probe-anew-clear-rest-requires t c κs = let f = facts _ _ _ _ _ _ _ (c .before .before .before .before .before .before .before .before .before .before .before .pre .1) in all-rows (f .room) (f .whole)
+probe-anew-clear-rest-requires t c κs = let f = facts _ _ _ _ _ _ _ (c .before .before .before .before .before .before .before .before .before .pre .1) in all-rows (f .room) (f .whole)
 
 probe-anew-leaf-width-requires : (t : ℕ) → probe-anew-lts.Need-leaf-width-requires (probe-anew-calls t) (probe-anew-at t) probe-anew.Post
 probe-anew-leaf-width-requires t c κs = search needs
 
 probe-anew-same-length : (t : ℕ) → probe-anew-lts.Need-same-length (probe-anew-calls t) (probe-anew-at t) probe-anew.Post
-probe-anew-same-length t c = let f = facts _ _ _ _ _ _ _ (c .before .before .before .before .before .before .before .before .before .before .before .before .before .before .before .before .before .pre .1) in omega arith
+probe-anew-same-length t c = let f = facts _ _ _ _ _ _ _ (c .before .before .before .before .before .before .before .before .before .before .before .before .before .before .before .before .pre .1) in omega arith
 
 probe-anew-same-length-2 : (t : ℕ) → probe-anew-lts.Need-same-length-2 (probe-anew-calls t) (probe-anew-at t) probe-anew.Post
-probe-anew-same-length-2 t c = let f = facts _ _ _ _ _ _ _ (c .before .before .before .before .before .before .before .before .before .before .before .before .before .before .before .before .before .pre .1) in omega arith
+probe-anew-same-length-2 t c = let f = facts _ _ _ _ _ _ _ (c .before .before .before .before .before .before .before .before .before .before .before .before .before .before .before .before .pre .1) in omega arith
 
 probe-anew-returns : (t : ℕ) → probe-anew-lts.Need-returns (probe-anew-calls t) (probe-anew-at t) probe-anew.Post
-probe-anew-returns t c = let s = c .before .before .before .before .before .before .before .before .before .before .before .before .before .before .before .before .before in anew-leaf (s .args .words .now) (s .args .numbers .now) (s .args .rows .now) (s .args .marks .now) (s .args .edits .now) (s .args .base) (s .args .q) _ (c .before .before .before .before .before .before .before .before .before .before .before .style-at .ensures) _ _ _ (sym (c .before .before .before .before .before .before .before .before .before .before .is-leaf .ensures) ∙ c .before .before .before .before .before .before .before .before .before .if1 .taken) (c .before .before .before .before .before .clear-rest .ensures) (c .leaf-width .ensures)
+probe-anew-returns t c = let s = c .before .before .before .before .before .before .before .before .before .before .before .before .before .before .before .before in anew-leaf (s .args .words .now) (s .args .numbers .now) (s .args .rows .now) (s .args .marks .now) (s .args .edits .now) (s .args .base) (s .args .q) _ refl _ _ _ (ap isLeaf (sym (kind-at (s .args .words .now) (s .args .numbers .now) (s .args .base))) ∙ sym (c .before .before .before .before .before .before .before .before .before .before .is-leaf .ensures) ∙ c .before .before .before .before .before .before .before .before .before .if1 .taken) (c .before .before .before .before .before .before .clear-rest .ensures) (c .leaf-width .ensures ∙ ap (λ (m : Measure). leafWidth m (s .args .q .available)) (c .before .measure-at .ensures ∙ measure-at (s .args .words .now) (s .args .numbers .now) (s .args .base)))
 
 probe-anew-probe-known-requires : (t : ℕ) → probe-anew-lts.Need-probe-known-requires (probe-anew-calls t) (probe-anew-at t) probe-anew.Post
 probe-anew-probe-known-requires t c κs = search needs
@@ -303,7 +312,7 @@ probe-anew-same-length-4 : (t : ℕ) → probe-anew-lts.Need-same-length-4 (prob
 probe-anew-same-length-4 t c = let f = facts _ _ _ _ _ _ _ (c .before .before .before .before .before .before .before .before .before .before .before .before .before .before .before .before .before .before .before .pre .1) in omega arith
 
 probe-anew-returns-2 : (t : ℕ) → probe-anew-lts.Need-returns-2 (probe-anew-calls t) (probe-anew-at t) probe-anew.Post
-probe-anew-returns-2 t c = let s = c .before .before .before .before .before .before .before .before .before .before .before .before .before .before .before .before .before .before .before in anew-known (s .args .words .now) (s .args .numbers .now) (s .args .rows .now) (s .args .marks .now) (s .args .edits .now) (s .args .base) (s .args .q) _ (c .before .before .before .before .before .before .before .before .before .before .before .before .before .style-at .ensures) _ _ _ _ (sym (c .before .before .before .before .before .before .before .before .before .before .before .before .is-leaf .ensures) ∙ c .before .before .before .before .before .before .before .before .before .before .before .if1 .left) (c .before .before .before .before .before .before .before .before .before .before .probe-known .ensures) (c .before .before .before .before .before .before .before .before .width .given .1) (c .before .before .before .before .clear-rest2 .ensures)
+probe-anew-returns-2 t c = let s = c .before .before .before .before .before .before .before .before .before .before .before .before .before .before .before .before .before .before .before in anew-known (s .args .words .now) (s .args .numbers .now) (s .args .rows .now) (s .args .marks .now) (s .args .edits .now) (s .args .base) (s .args .q) _ (c .before .before .before .before .before .before .before .before .before .before .before .reader-at .ensures .1) _ _ _ _ (ap (λ (y : Style). isLeaf (y .kind)) (c .before .before .before .before .before .before .before .before .before .before .before .reader-at .ensures .1) ∙ ap isLeaf (sym (kind-at (s .args .words .now) (s .args .numbers .now) (s .args .base))) ∙ sym (c .before .before .before .before .before .before .before .before .before .before .before .before .before .is-leaf .ensures) ∙ c .before .before .before .before .before .before .before .before .before .before .before .before .if1 .left) (c .before .before .before .before .before .before .before .before .before .before .probe-known .ensures) (c .before .before .before .before .before .before .before .before .width .given .1) (c .before .before .before .before .clear-rest2 .ensures)
 
 probe-anew-same-length-5 : (t : ℕ) → probe-anew-lts.Need-same-length-5 (probe-anew-calls t) (probe-anew-at t) probe-anew.Post
 probe-anew-same-length-5 t c = let f = facts _ _ _ _ _ _ _ (c .before .before .before .before .before .before .before .before .before .before .before .before .before .before .before .before .before .before .before .before .before .pre .1) in omega arith
@@ -312,13 +321,13 @@ probe-anew-same-length-6 : (t : ℕ) → probe-anew-lts.Need-same-length-6 (prob
 probe-anew-same-length-6 t c = let f = facts _ _ _ _ _ _ _ (c .before .before .before .before .before .before .before .before .before .before .before .before .before .before .before .before .before .before .before .before .before .pre .1) in omega arith
 
 probe-anew-returns-3 : (t : ℕ) → probe-anew-lts.Need-returns-3 (probe-anew-calls t) (probe-anew-at t) probe-anew.Post
-probe-anew-returns-3 t c = let s = c .before .before .before .before .before .before .before .before .before .before .before .before .before .before .before .before .before .before .before .before .before in anew-below (s .args .words .now) (s .args .numbers .now) (s .args .rows .now) (s .args .marks .now) (s .args .edits .now) (s .args .base) (s .args .q) _ (c .before .before .before .before .before .before .before .before .before .before .before .before .before .before .before .style-at .ensures) _ _ _ _ _ _ (sym (c .before .before .before .before .before .before .before .before .before .before .before .before .before .before .is-leaf .ensures) ∙ c .before .before .before .before .before .before .before .before .before .before .before .before .before .if1 .left) (c .before .before .before .before .before .before .before .before .before .before .before .before .probe-known .ensures) (c .before .before .before .before .before .before .before .before .before .before .enum-told .given .1) (c .before .before .before .before .before .before .before .before .before .available-inside .ensures) (c .before .before .before .before .before .determine-content-based-container-width .ensures) (c .width-from .ensures)
+probe-anew-returns-3 t c = let s = c .before .before .before .before .before .before .before .before .before .before .before .before .before .before .before .before .before .before .before .before .before in anew-below (s .args .words .now) (s .args .numbers .now) (s .args .rows .now) (s .args .marks .now) (s .args .edits .now) (s .args .base) (s .args .q) _ (c .before .before .before .before .before .before .before .before .before .before .before .before .before .reader-at .ensures .1) _ _ _ _ _ _ (ap (λ (y : Style). isLeaf (y .kind)) (c .before .before .before .before .before .before .before .before .before .before .before .before .before .reader-at .ensures .1) ∙ ap isLeaf (sym (kind-at (s .args .words .now) (s .args .numbers .now) (s .args .base))) ∙ sym (c .before .before .before .before .before .before .before .before .before .before .before .before .before .before .before .is-leaf .ensures) ∙ c .before .before .before .before .before .before .before .before .before .before .before .before .before .before .if1 .left) (c .before .before .before .before .before .before .before .before .before .before .before .before .probe-known .ensures) (c .before .before .before .before .before .before .before .before .before .before .enum-told .given .1) (c .before .before .before .before .before .before .before .before .before .available-inside .ensures) (c .before .before .before .before .before .determine-content-based-container-width .ensures) (c .width-from .ensures)
 
 abbrev widen-calls : ℕ → widen-lts.Claims
-widen-calls t = (style-at-reads.Asked, style-at-reads.Learnt, want-of-reads.Asked, want-of-reads.Learnt, clear-probes-reads.Asked, clear-probes-reads.Learnt, f32-max-reads.Asked, f32-max-reads.Learnt, probe-below t, probe.Post, outer-width-reads.Asked, outer-width-reads.Learnt)
+widen-calls t = (reader-at-reads.Asked, reader-at-reads.Learnt, want-of-reads.Asked, want-of-reads.Learnt, clear-probes-reads.Asked, clear-probes-reads.Learnt, f32-max-reads.Asked, f32-max-reads.Learnt, probe-below t, probe.Post, outer-width-reads.Asked, outer-width-reads.Learnt)
 
-widen-style-at-requires : (t : ℕ) → widen-lts.Need-style-at-requires (widen-calls t) (widen-at t) widen.Post
-widen-style-at-requires t c κs = search needs
+widen-reader-at-requires : (t : ℕ) → widen-lts.Need-reader-at-requires (widen-calls t) (widen-at t) widen.Post
+widen-reader-at-requires t c κs = let f = facts _ _ _ _ _ _ _ (c .before .before .before .before .before .pre .1) in (f .words-some, f .reach)
 
 widen-want-of-requires : (t : ℕ) → widen-lts.Need-want-of-requires (widen-calls t) (widen-at t) widen.Post
 widen-want-of-requires t c κs = search needs
@@ -357,7 +366,7 @@ widen-same-length-2 : (t : ℕ) → widen-lts.Need-same-length-2 (widen-calls t)
 widen-same-length-2 t c = let f = facts _ _ _ _ _ _ _ (c .before .before .before .before .before .before .before .before .before .before .before .before .before .before .before .before .pre .1) in omega arith
 
 widen-returns : (t : ℕ) → widen-lts.Need-returns (widen-calls t) (widen-at t) widen.Post
-widen-returns t c = let s = c .before .before .before .before .before .before .before .before .before .before .before .before .before .before .before .before in widened-nothing (s .args .words .now) (s .args .numbers .now) (s .args .rows .now) (s .args .marks .now) (s .args .edits .now) (s .args .base) (s .args .a) (s .args .most) _ _ _ _ (c .before .before .before .before .before .before .before .before .before .before .style-at .ensures) (c .before .before .before .before .before .before .before .before .before .want-of .ensures) (c .before .before .before .before .before .before .before .enum-told .given .1) (c .before .before .before .before .clear-probes .ensures)
+widen-returns t c = let s = c .before .before .before .before .before .before .before .before .before .before .before .before .before .before .before .before in widened-nothing (s .args .words .now) (s .args .numbers .now) (s .args .rows .now) (s .args .marks .now) (s .args .edits .now) (s .args .base) (s .args .a) (s .args .most) _ _ _ _ (c .before .before .before .before .before .before .before .before .before .before .reader-at .ensures .1) (c .before .before .before .before .before .before .before .before .before .want-of .ensures) (c .before .before .before .before .before .before .before .enum-told .given .1) (c .before .before .before .before .clear-probes .ensures)
 
 widen-same-length-3 : (t : ℕ) → widen-lts.Need-same-length-3 (widen-calls t) (widen-at t) widen.Post
 widen-same-length-3 t c = let f = facts _ _ _ _ _ _ _ (c .before .before .before .before .before .before .before .before .before .before .before .before .before .before .before .before .before .before .pre .1) in omega arith
@@ -366,7 +375,7 @@ widen-same-length-4 : (t : ℕ) → widen-lts.Need-same-length-4 (widen-calls t)
 widen-same-length-4 t c = let f = facts _ _ _ _ _ _ _ (c .before .before .before .before .before .before .before .before .before .before .before .before .before .before .before .before .before .before .pre .1) in omega arith
 
 widen-returns-2 : (t : ℕ) → widen-lts.Need-returns-2 (widen-calls t) (widen-at t) widen.Post
-widen-returns-2 t c = let s = c .before .before .before .before .before .before .before .before .before .before .before .before .before .before .before .before .before .before in widened-outer (s .args .words .now) (s .args .numbers .now) (s .args .rows .now) (s .args .marks .now) (s .args .edits .now) (s .args .base) (s .args .a) (s .args .most) _ _ _ _ (c .before .before .before .before .before .before .before .before .before .before .before .before .style-at .ensures) (c .before .before .before .before .before .before .before .before .before .before .before .want-of .ensures) _ _ (c .before .before .before .before .before .before .before .before .before .want .given .1) (c .before .before .before .before .before .clear-probes2 .ensures) (c .f32-max .ensures)
+widen-returns-2 t c = let s = c .before .before .before .before .before .before .before .before .before .before .before .before .before .before .before .before .before .before in widened-outer (s .args .words .now) (s .args .numbers .now) (s .args .rows .now) (s .args .marks .now) (s .args .edits .now) (s .args .base) (s .args .a) (s .args .most) _ _ _ _ (c .before .before .before .before .before .before .before .before .before .before .before .before .reader-at .ensures .1) (c .before .before .before .before .before .before .before .before .before .before .before .want-of .ensures) _ _ (c .before .before .before .before .before .before .before .before .before .want .given .1) (c .before .before .before .before .before .clear-probes2 .ensures) (c .f32-max .ensures)
 
 widen-same-length-5 : (t : ℕ) → widen-lts.Need-same-length-5 (widen-calls t) (widen-at t) widen.Post
 widen-same-length-5 t c = let f = facts _ _ _ _ _ _ _ (c .before .before .before .before .before .before .before .before .before .before .before .before .before .before .before .before .before .before .before .pre .1) in omega arith
@@ -375,11 +384,11 @@ widen-same-length-6 : (t : ℕ) → widen-lts.Need-same-length-6 (widen-calls t)
 widen-same-length-6 t c = let f = facts _ _ _ _ _ _ _ (c .before .before .before .before .before .before .before .before .before .before .before .before .before .before .before .before .before .before .before .pre .1) in omega arith
 
 widen-returns-3 : (t : ℕ) → widen-lts.Need-returns-3 (widen-calls t) (widen-at t) widen.Post
-widen-returns-3 t c = let s = c .before .before .before .before .before .before .before .before .before .before .before .before .before .before .before .before .before .before .before in widened-probe (s .args .words .now) (s .args .numbers .now) (s .args .rows .now) (s .args .marks .now) (s .args .edits .now) (s .args .base) (s .args .a) (s .args .most) _ _ _ _ (c .before .before .before .before .before .before .before .before .before .before .before .before .before .style-at .ensures) (c .before .before .before .before .before .before .before .before .before .before .before .before .want-of .ensures) _ _ _ _ (c .before .before .before .before .before .before .before .before .before .before .want2 .given .1) (c .before .before .before .before .before .before .probe .ensures) (c .before .outer-width .ensures) (c .f32-max2 .ensures)
+widen-returns-3 t c = let s = c .before .before .before .before .before .before .before .before .before .before .before .before .before .before .before .before .before .before .before in widened-probe (s .args .words .now) (s .args .numbers .now) (s .args .rows .now) (s .args .marks .now) (s .args .edits .now) (s .args .base) (s .args .a) (s .args .most) _ _ _ _ (c .before .before .before .before .before .before .before .before .before .before .before .before .before .reader-at .ensures .1) (c .before .before .before .before .before .before .before .before .before .before .before .before .want-of .ensures) _ _ _ _ (c .before .before .before .before .before .before .before .before .before .before .want2 .given .1) (c .before .before .before .before .before .before .probe .ensures) (c .before .outer-width .ensures) (c .f32-max2 .ensures)
 
 pub +determine-content-based-container-width+probe+probe-anew+widen-spec : {M : Type 1} → statement M
 +determine-content-based-container-width+probe+probe-anew+widen-spec = close μ-widest μ-probe μ-probe-anew μ-widen
-    (λ t. widest-lts.spec (widest-calls t) (widest-at t) widest.Post widest-Inv-loop widest-μ-loop (widest-loop-holds t) (widest-mul-loop t) (widest-word-requires t) (widest-cast-e t) (widest-add-e t) (widest-mul-i4 t) (widest-mul-e4 t) (widest-mul-i16 t) (widest-mul-e16 t) (widest-mul-i2 t) (widest-mul-e2 t) (widest-mul-widen t) (widest-sub-widen t) (widest-part-widen-start t) (widest-part-widen-end t) (widest-mul-widen-2 t) (widest-sub-widen-2 t) (widest-part-widen-start-2 t) (widest-part-widen-end-2 t) (widest-mul-widen-3 t) (widest-sub-widen-3 t) (widest-part-widen-start-3 t) (widest-part-widen-end-3 t) (widest-add-widen t) (widest-widen-requires t) (widest-loop-less t) (widest-loop-again t) (widest-same-length t) (widest-same-length-2 t) (widest-returns t))
+    (λ t. widest-lts.spec (widest-calls t) (widest-at t) widest.Post widest-Inv-loop widest-μ-loop (widest-loop-holds t) (widest-mul-loop t) (widest-word-in-requires t) (widest-cast-e t) (widest-add-e t) (widest-mul-i4 t) (widest-mul-e4 t) (widest-mul-i16 t) (widest-mul-e16 t) (widest-mul-i2 t) (widest-mul-e2 t) (widest-mul-widen t) (widest-sub-widen t) (widest-part-widen-start t) (widest-part-widen-end t) (widest-mul-widen-2 t) (widest-sub-widen-2 t) (widest-part-widen-start-2 t) (widest-part-widen-end-2 t) (widest-mul-widen-3 t) (widest-sub-widen-3 t) (widest-part-widen-start-3 t) (widest-part-widen-end-3 t) (widest-add-widen t) (widest-widen-requires t) (widest-loop-less t) (widest-loop-again t) (widest-same-length t) (widest-same-length-2 t) (widest-returns t))
     (λ t. probe-lts.spec (probe-calls t) (probe-at t) probe.Post (probe-stands-requires t) (probe-slice-read-result t) (probe-same-length t) (probe-same-length-2 t) (probe-returns t) (probe-probe-anew-requires t) (probe-note-probe-requires t) (probe-same-length-3 t) (probe-same-length-4 t) (probe-returns-2 t))
-    (λ t. probe-anew-lts.spec (probe-anew-calls t) (probe-anew-at t) probe-anew.Post (probe-anew-style-at-requires t) (probe-anew-is-leaf-requires t) (probe-anew-clear-rest-requires t) (probe-anew-leaf-width-requires t) (probe-anew-same-length t) (probe-anew-same-length-2 t) (probe-anew-returns t) (probe-anew-probe-known-requires t) (probe-anew-enum-known-width t) (probe-anew-clear-rest-requires-2 t) (probe-anew-enum-told t) (probe-anew-available-inside-requires t) (probe-anew-sub-widest t) (probe-anew-part-widest-start t) (probe-anew-part-widest-end t) (probe-anew-sub-widest-2 t) (probe-anew-part-widest-start-2 t) (probe-anew-part-widest-end-2 t) (probe-anew-sub-widest-3 t) (probe-anew-part-widest-start-3 t) (probe-anew-part-widest-end-3 t) (probe-anew-add-widest t) (probe-anew-sub-widest-4 t) (probe-anew-widest-requires t) (probe-anew-width-from-requires t) (probe-anew-same-length-3 t) (probe-anew-same-length-4 t) (probe-anew-returns-2 t) (probe-anew-same-length-5 t) (probe-anew-same-length-6 t) (probe-anew-returns-3 t))
-    λ t. widen-lts.spec (widen-calls t) (widen-at t) widen.Post (widen-style-at-requires t) (widen-want-of-requires t) (widen-enum-told t) (widen-clear-probes-requires t) (widen-enum-known-want t) (widen-clear-probes-requires-2 t) (widen-f32-max-requires t) (widen-enum-known-want-2 t) (widen-probe-requires t) (widen-outer-width-requires t) (widen-f32-max-requires-2 t) (widen-same-length t) (widen-same-length-2 t) (widen-returns t) (widen-same-length-3 t) (widen-same-length-4 t) (widen-returns-2 t) (widen-same-length-5 t) (widen-same-length-6 t) (widen-returns-3 t)
+    (λ t. probe-anew-lts.spec (probe-anew-calls t) (probe-anew-at t) probe-anew.Post (probe-anew-is-leaf-requires t) (probe-anew-clear-rest-requires t) (probe-anew-measure-at-requires t) (probe-anew-leaf-width-requires t) (probe-anew-same-length t) (probe-anew-same-length-2 t) (probe-anew-returns t) (probe-anew-reader-at-requires t) (probe-anew-probe-known-requires t) (probe-anew-enum-known-width t) (probe-anew-clear-rest-requires-2 t) (probe-anew-enum-told t) (probe-anew-available-inside-requires t) (probe-anew-sub-widest t) (probe-anew-part-widest-start t) (probe-anew-part-widest-end t) (probe-anew-sub-widest-2 t) (probe-anew-part-widest-start-2 t) (probe-anew-part-widest-end-2 t) (probe-anew-sub-widest-3 t) (probe-anew-part-widest-start-3 t) (probe-anew-part-widest-end-3 t) (probe-anew-add-widest t) (probe-anew-sub-widest-4 t) (probe-anew-widest-requires t) (probe-anew-width-from-requires t) (probe-anew-same-length-3 t) (probe-anew-same-length-4 t) (probe-anew-returns-2 t) (probe-anew-same-length-5 t) (probe-anew-same-length-6 t) (probe-anew-returns-3 t))
+    λ t. widen-lts.spec (widen-calls t) (widen-at t) widen.Post (widen-reader-at-requires t) (widen-want-of-requires t) (widen-enum-told t) (widen-clear-probes-requires t) (widen-enum-known-want t) (widen-clear-probes-requires-2 t) (widen-f32-max-requires t) (widen-enum-known-want-2 t) (widen-probe-requires t) (widen-outer-width-requires t) (widen-f32-max-requires-2 t) (widen-same-length t) (widen-same-length-2 t) (widen-returns t) (widen-same-length-3 t) (widen-same-length-4 t) (widen-returns-2 t) (widen-same-length-5 t) (widen-same-length-6 t) (widen-returns-3 t)

@@ -1,3 +1,4 @@
+use mathlib.Core.Path.{sym}
 use Rattle.steps.specs.Sizing.{boxSize}
 use borrow.Author.Needs.{needs}
 use Rattle.sizing.proofs.box_size.Statement.{statement}
@@ -17,11 +18,11 @@ maybe-add-requires c κs = search needs
 
 returns : tie.Need-returns
 unfolding boxSize
-returns c = rw (c .maybe-add .ensures, c .before .sum-axes .ensures, c .before .before .before .maybe-apply-aspect-ratio .ensures, c .before .before .if1 .taken, c .before .before .before .before .resolve-axes .ensures)
+returns c = λ s e k. rw (k, e, c .before .before .if1 .taken, c .maybe-add .ensures, c .before .sum-axes .ensures, c .before .before .before .maybe-apply-aspect-ratio .ensures, c .before .before .before .before .resolve-axes .ensures)
 
 returns-2 : tie.Need-returns-2
 unfolding boxSize
-returns-2 c = rw (c .before .maybe-apply-aspect-ratio .ensures, c .if1 .left, c .before .before .resolve-axes .ensures)
+returns-2 c = λ s e k. rw (k, e, c .if1 .left, c .before .maybe-apply-aspect-ratio .ensures, c .before .before .resolve-axes .ensures)
 
 pub box-size-spec : {M : Type 1} → statement M
 box-size-spec =

@@ -11,7 +11,7 @@ fill-axes-requires c κs = search needs
 
 returns : tie.Need-returns
 unfolding stepD
-returns c = rw (c .fill-axes .ensures, c .before .maybe-apply-aspect-ratio .ensures)
+returns c = λ s e. rw (e, c .fill-axes .ensures, c .before .maybe-apply-aspect-ratio .ensures)
 
 pub known-by-ratio-spec : {M : Type 1} → statement M
 known-by-ratio-spec =

@@ -1,4 +1,5 @@
-use Rattle.steps.specs.Sizing.{knownOf}
+use mathlib.Core.Path.{_∙_, ap}
+use Rattle.steps.specs.Sizing.{knownOf, stepD}
 use borrow.Author.Needs.{needs}
 use Rattle.sizing.proofs.known_dimensions.Statement.{statement}
 use Rattle.sizing.proofs.known_dimensions.Tie as tie
@@ -11,7 +12,7 @@ known-by-ratio-requires c κs = search needs
 
 returns : tie.Need-returns
 unfolding knownOf
-returns c = rw (c .known-by-ratio .ensures, c .before .known-by-style .ensures)
+returns c = λ s e. rw (c .known-by-ratio .ensures s e, c .before .known-by-style .ensures)
 
 pub known-dimensions-spec : {M : Type 1} → statement M
 known-dimensions-spec =

@@ -1,16 +1,40 @@
+use Rattle.reader.specs.Reader.{styleIn, content-read}
+use mathlib.Core.Path.{sym, _∙_}
+use denote.Ref.{now}
 use Rattle.steps.specs.Sizing.{sizingOf, sizedBy}
 use borrow.Author.Needs.{needs}
 use Rattle.sizing.proofs.sizing_in.Statement.{statement}
 use Rattle.sizing.proofs.sizing_in.Tie as tie
 
+padding-requires : tie.Need-padding-requires
+padding-requires c κs = search needs
+
 resolve-sides-requires : tie.Need-resolve-sides-requires
 resolve-sides-requires c κs = search needs
+
+border-requires : tie.Need-border-requires
+border-requires c κs = search needs
 
 resolve-sides-requires-2 : tie.Need-resolve-sides-requires-2
 resolve-sides-requires-2 c κs = search needs
 
 add-requires : tie.Need-add-requires
 add-requires c κs = search needs
+
+flag-requires : tie.Need-flag-requires
+flag-requires c κs = search needs
+
+ratio-requires : tie.Need-ratio-requires
+ratio-requires c κs = search needs
+
+size-requires : tie.Need-size-requires
+size-requires c κs = search needs
+
+min-requires : tie.Need-min-requires
+min-requires c κs = search needs
+
+max-requires : tie.Need-max-requires
+max-requires c κs = search needs
 
 box-size-requires : tie.Need-box-size-requires
 box-size-requires c κs = search needs
@@ -23,15 +47,32 @@ box-size-requires-3 c κs = search needs
 
 returns : tie.Need-returns
 unfolding sizingOf sizedBy
-returns c = rw (c .box-size3 .ensures, c .before .box-size2 .ensures, c .before .before .box-size .ensures, c .before .before .before .before .before .before .add .ensures, c .before .before .before .before .before .before .before .resolve-sides2 .ensures, c .before .before .before .before .before .before .before .before .resolve-sides .ensures)
+returns c =
+    let at-max = c .before .before .before in
+    let at-ratio = at-max .before .before .before in
+    let at-flag = at-ratio .before in
+    let at-add = at-flag .before in
+    let at-border = at-add .before .before in
+    let a = at-border .before .before .before .before .args in
+    let s = styleIn (a .r) (now (a .numbers)) in
+    let e = content-read (a .r) (now (a .numbers)) ∙ sym (at-flag .flag .ensures) in
+    let k = sym (at-ratio .ratio .ensures) in
+    rw (c .box-size3 .ensures s e k, c .before .box-size2 .ensures s e k, c .before .before .box-size .ensures s e k) (rw (at-max .max .ensures, at-max .before .min .ensures, at-max .before .before .size .ensures, at-add .add .ensures, at-add .before .resolve-sides2 .ensures, at-border .border .ensures, at-border .before .resolve-sides .ensures, at-border .before .before .padding .ensures))
 
 pub sizing-in-spec : {M : Type 1} → statement M
 sizing-in-spec =
     tie.close
     (tie.spec
+    padding-requires
     resolve-sides-requires
+    border-requires
     resolve-sides-requires-2
     add-requires
+    flag-requires
+    ratio-requires
+    size-requires
+    min-requires
+    max-requires
     box-size-requires
     box-size-requires-2
     box-size-requires-3

@@ -14,11 +14,11 @@ place-y-requires c κs = search needs
 
 returns : tie.Need-returns
 unfolding atPlace
-returns c = rw (c .enum-told .given .1)
+returns c = λ z. rw (c .enum-told .given .1)
 
 returns-2 : tie.Need-returns-2
 unfolding atPlace
-returns-2 c = rw (c .place-y .ensures, c .before .before .own .given .1)
+returns-2 c = λ z. rw (c .place-y .ensures z, c .before .before .own .given .1)
 
 pub baseline-at-spec : {M : Type 1} → statement M
 baseline-at-spec = tie.close (tie.spec enum-told enum-known-own place-y-requires returns returns-2)

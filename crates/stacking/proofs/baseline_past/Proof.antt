@@ -15,11 +15,11 @@ enum-known-first c = search needs
 
 returns : tie.Need-returns
 unfolding baselinePast orElse
-returns c = rw (c .baseline-at .ensures, c .before .enum-told .given .1)
+returns c = λ z. rw (c .baseline-at .ensures z, c .before .enum-told .given .1)
 
 returns-2 : tie.Need-returns-2
 unfolding baselinePast orElse
-returns-2 c = rw (c .before .first .given .1)
+returns-2 c = λ z. rw (c .before .first .given .1)
 
 pub baseline-past-spec : {M : Type 1} → statement M
 baseline-past-spec =

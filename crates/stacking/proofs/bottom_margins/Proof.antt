@@ -8,7 +8,7 @@ collapse-with-margin-requires c κs = search needs
 
 returns : tie.Need-returns
 unfolding bottomMargins
-returns c = rw (c .collapse-with-margin .ensures)
+returns c = λ z. rw (c .collapse-with-margin .ensures)
 
 pub bottom-margins-spec : {M : Type 1} → statement M
 bottom-margins-spec = tie.close (tie.spec collapse-with-margin-requires returns)

@@ -14,7 +14,7 @@ f32-max-requires c κs = search needs
 
 returns : tie.Need-returns
 unfolding freeOf
-returns c = rw (c .f32-max .ensures, c .before .horizontal-axis-sum .ensures, c .before .before .inner-width .ensures)
+returns c = λ z. rw (c .f32-max .ensures, c .before .horizontal-axis-sum .ensures, c .before .before .inner-width .ensures)
 
 pub free-of-spec : {M : Type 1} → statement M
 free-of-spec =

@@ -11,7 +11,7 @@ place-y-requires c κs = search needs
 
 returns : tie.Need-returns
 unfolding placeOf
-returns c = rw (c .place-y .ensures, c .before .place-x .ensures)
+returns c = λ z. rw (c .place-y .ensures z, c .before .place-x .ensures z)
 
 pub place-of-spec : {M : Type 1} → statement M
 place-of-spec = tie.close (tie.spec place-x-requires place-y-requires returns)

@@ -14,11 +14,11 @@ share-of-requires-2 c κs = search needs
 
 returns : tie.Need-returns
 unfolding placeX
-returns c = rw (c .before .share-of .ensures, ← c .before .before .before .before .before .free-of .ensures, c .before .before .before .before .if1 .taken)
+returns c = λ z. rw (c .before .share-of .ensures, ← c .before .before .before .before .before .free-of .ensures z, c .before .before .before .before .if1 .taken)
 
 returns-2 : tie.Need-returns-2
 unfolding placeX
-returns-2 c = rw (c .before .before .share-of2 .ensures, ← c .before .before .before .before .free-of .ensures, c .before .before .before .if1 .left)
+returns-2 c = λ z. rw (c .before .before .share-of2 .ensures, ← c .before .before .before .before .free-of .ensures z, c .before .before .before .if1 .left)
 
 pub place-x-spec : {M : Type 1} → statement M
 place-x-spec =

@@ -11,7 +11,7 @@ gap-of-requires c κs = search needs
 
 returns : tie.Need-returns
 unfolding placeY
-returns c = rw (c .before .before .gap-of .ensures, c .before .before .before .top-margins .ensures)
+returns c = λ z. rw (c .before .before .gap-of .ensures, c .before .before .before .top-margins .ensures z)
 
 pub place-y-spec : {M : Type 1} → statement M
 place-y-spec = tie.close (tie.spec top-margins-requires gap-of-requires returns)

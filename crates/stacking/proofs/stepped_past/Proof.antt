@@ -20,11 +20,11 @@ past-box-requires c κs = search needs
 
 returns : tie.Need-returns
 unfolding stepped
-returns c = rw (c .past-through .ensures, c .before .before .baseline-past .ensures, c .before .before .before .bottom-margins .ensures, c .before .before .before .before .top-margins .ensures, c .before .if1 .taken)
+returns c = λ z. rw (c .past-through .ensures, c .before .before .baseline-past .ensures z, c .before .before .before .bottom-margins .ensures z, c .before .before .before .before .top-margins .ensures z, c .before .if1 .taken)
 
 returns-2 : tie.Need-returns-2
 unfolding stepped
-returns-2 c = rw (c .past-box .ensures, c .before .before .baseline-past .ensures, c .before .before .before .bottom-margins .ensures, c .before .before .before .before .top-margins .ensures, c .before .if1 .left)
+returns-2 c = λ z. rw (c .past-box .ensures, c .before .before .baseline-past .ensures z, c .before .before .before .bottom-margins .ensures z, c .before .before .before .before .top-margins .ensures z, c .before .if1 .left)
 
 pub stepped-past-spec : {M : Type 1} → statement M
 stepped-past-spec =

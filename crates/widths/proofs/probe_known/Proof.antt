@@ -1,7 +1,13 @@
+use mathlib.Core.Path.{sym}
+use denote.Ref.{now}
+use Rattle.reader.specs.Reader.{styleIn}
 use Rattle.steps.specs.Probe.{probeKnown}
 use borrow.Author.Needs.{needs}
 use Rattle.widths.proofs.probe_known.Statement.{statement}
 use Rattle.widths.proofs.probe_known.Tie as tie
+
+ratio-requires : tie.Need-ratio-requires
+ratio-requires c κs = search needs
 
 sizing-of-requires : tie.Need-sizing-of-requires
 sizing-of-requires c κs = search needs
@@ -11,7 +17,11 @@ known-dimensions-requires c κs = search needs
 
 returns : tie.Need-returns
 unfolding probeKnown
-returns c = rw (c .known-dimensions .ensures, c .before .sizing-of .ensures)
+returns c =
+    let at-ratio = c .before .before in
+    let a = at-ratio .before .before .args in
+    rw (c .known-dimensions .ensures (styleIn (a .r) (now (a .numbers))) (sym (at-ratio .ratio .ensures)), c .before .sizing-of .ensures)
 
 pub probe-known-spec : {M : Type 1} → statement M
-probe-known-spec = tie.close (tie.spec sizing-of-requires known-dimensions-requires returns)
+probe-known-spec =
+    tie.close (tie.spec ratio-requires sizing-of-requires known-dimensions-requires returns)

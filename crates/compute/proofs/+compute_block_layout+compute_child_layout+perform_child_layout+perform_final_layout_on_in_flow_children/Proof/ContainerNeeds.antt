@@ -3,12 +3,13 @@ use mathlib.Core.Path.{refl, sym, ap, _∙_}
 use native.Mathlib.Omega.{arith}
 use borrow.Author.Needs.{needs}
 use Rattle.walks.proofs.Given.{facts}
-use Rattle.compute.proofs.OneTree.{leaf-laid, align-given, block-laid, kind-is, measure-is}
+use Rattle.compute.proofs.OneTree.{leaf-laid, align-given, block-laid}
+use Rattle.reader.specs.Reader.{kind-at, measure-at}
 use Prim.Native.Nat.{ℕ}
 use borrow.Fn.Kinds.{In}
 use Rattle.compute.proofs.align.Reads as align-reads
 use Rattle.compute.proofs.put_leaf.Reads as put-leaf-reads
-use Rattle.compute.proofs.is_leaf.Reads as is-leaf-reads
+use Rattle.reader.proofs.is_leaf.Reads as is-leaf-reads
 use Rattle.frames.proofs.frame_at.Reads as frame-at-reads
 use Rattle.heights.proofs.finish_at.Reads as finish-at-reads
 use Rattle.heights.proofs.leaf_at.Reads as leaf-at-reads
@@ -31,7 +32,7 @@ module _ (t : ℕ) where
   calls = (is-leaf-reads.Asked, is-leaf-reads.Learnt, leaf-at-reads.Asked, leaf-at-reads.Learnt, put-leaf-reads.Asked, put-leaf-reads.Learnt, frame-at-reads.Asked, frame-at-reads.Learnt, stack-below t, stack-reads.Post, finish-at-reads.Asked, finish-at-reads.Learnt, put-head-reads.Asked, put-head-reads.Learnt, align-reads.Asked, align-reads.Learnt)
 
   is-leaf-requires : lts.Need-is-leaf-requires calls here reads.Post
-  is-leaf-requires c κs = search needs
+  is-leaf-requires c κs = let f = facts _ _ _ _ _ _ _ (c .before .before .before .before .before .pre .1) in f .words-some
 
   leaf-at-requires : lts.Need-leaf-at-requires calls here reads.Post
   leaf-at-requires c κs = search needs
@@ -52,10 +53,10 @@ module _ (t : ℕ) where
       let at-if1 = at-leaf-at .before in
       let at-is-leaf = at-if1 .before in
       let s = at-is-leaf .before .before .before .before .before .before in
-      leaf-laid (s .args .words .now) (s .args .numbers .now) (s .args .rows .now) (s .args .marks .now) (s .args .edits .now) (s .args .base) (s .args .q) (s .args .found) _ _ _ _ refl (ap isLeaf (sym (kind-is (s .args .words .now) (s .args .numbers .now) (s .args .base))) ∙ sym (at-is-leaf .is-leaf .ensures) ∙ at-if1 .if1 .taken) (at-leaf-at .leaf-at .ensures ∙ ap (λ (m : Measure). leafOutput m (s .args .q)) (measure-is (s .args .words .now) (s .args .numbers .now) (s .args .base))) (at-put-leaf .put-leaf .ensures)
+      leaf-laid (s .args .words .now) (s .args .numbers .now) (s .args .rows .now) (s .args .marks .now) (s .args .edits .now) (s .args .base) (s .args .q) (s .args .found) _ _ _ _ refl (ap isLeaf (sym (kind-at (s .args .words .now) (s .args .numbers .now) (s .args .base))) ∙ sym (at-is-leaf .is-leaf .ensures) ∙ at-if1 .if1 .taken) (at-leaf-at .leaf-at .ensures ∙ ap (λ (m : Measure). leafOutput m (s .args .q)) (measure-at (s .args .words .now) (s .args .numbers .now) (s .args .base))) (at-put-leaf .put-leaf .ensures)
 
   frame-at-requires : lts.Need-frame-at-requires calls here reads.Post
-  frame-at-requires c κs = search needs
+  frame-at-requires c κs = let f = facts _ _ _ _ _ _ _ (c .before .before .before .before .before .before .before .pre .1) in (f .words-some, f .reach)
 
   sub-perform-final-layout-on-in-flow-children : lts.Need-sub-perform-final-layout-on-in-flow-children calls here reads.Post
   sub-perform-final-layout-on-in-flow-children c = let f = facts _ _ _ _ _ _ _ (c .before .before .before .before .before .before .before .before .pre .1) in omega arith
@@ -94,7 +95,7 @@ module _ (t : ℕ) where
   perform-final-layout-on-in-flow-children-requires c κs = let f = facts _ _ _ _ _ _ _ (c .before .before .before .before .before .before .before .before .before .before .before .pre .1) in (omega (arith, c .before .before .before .before .before .before .before .before .before .before .before .pre .0), f .kids)
 
   finish-at-requires : lts.Need-finish-at-requires calls here reads.Post
-  finish-at-requires c κs = search needs
+  finish-at-requires c κs = let f = facts _ _ _ _ _ _ _ (c .before .before .before .before .before .before .before .before .before .before .before .before .before .before .before .before .pre .1) in (f .words-some, f .reach)
 
   put-head-requires : lts.Need-put-head-requires calls here reads.Post
   put-head-requires c κs = let f = facts _ _ _ _ _ _ _ (c .before .before .before .before .before .before .before .before .before .before .before .before .before .before .before .before .before .before .before .before .pre .1) in let r = f .room in record { rows-some = omega arith; marks-some = omega arith }
@@ -135,7 +136,7 @@ module _ (t : ℕ) where
       let at-if1 = at-frame-at .before in
       let at-is-leaf = at-if1 .before in
       let s = at-is-leaf .before .before .before .before .before .before in
-      align-given (s .args .words .now) (s .args .numbers .now) (s .args .rows .now) (s .args .marks .now) (s .args .edits .now) (s .args .base) (s .args .q) (s .args .found) _ _ _ _ _ _ _ _ refl (ap isLeaf (sym (kind-is (s .args .words .now) (s .args .numbers .now) (s .args .base))) ∙ sym (at-is-leaf .is-leaf .ensures) ∙ at-if1 .if1 .left) (at-frame-at .frame-at .ensures) (at-perform-final-layout-on-in-flow-children .perform-final-layout-on-in-flow-children .ensures) (at-finish-at .finish-at .ensures) (at-put-head .put-head .ensures) (s .args .depth) (s .pre .1)
+      align-given (s .args .words .now) (s .args .numbers .now) (s .args .rows .now) (s .args .marks .now) (s .args .edits .now) (s .args .base) (s .args .q) (s .args .found) _ _ _ _ _ _ _ _ refl (ap isLeaf (sym (kind-at (s .args .words .now) (s .args .numbers .now) (s .args .base))) ∙ sym (at-is-leaf .is-leaf .ensures) ∙ at-if1 .if1 .left) (at-frame-at .frame-at .ensures) (at-perform-final-layout-on-in-flow-children .perform-final-layout-on-in-flow-children .ensures) (at-finish-at .finish-at .ensures) (at-put-head .put-head .ensures) (s .args .depth) (s .pre .1)
 
   same-length-3 : lts.Need-same-length-3 calls here reads.Post
   same-length-3 c = let f = facts _ _ _ _ _ _ _ (c .before .before .before .before .before .before .before .before .before .before .before .before .before .before .before .before .before .before .before .before .before .before .before .before .before .before .before .before .before .before .before .before .pre .1) in omega arith
@@ -153,7 +154,7 @@ module _ (t : ℕ) where
       let at-if1 = at-frame-at .before in
       let at-is-leaf = at-if1 .before in
       let s = at-is-leaf .before .before .before .before .before .before in
-      block-laid (s .args .words .now) (s .args .numbers .now) (s .args .rows .now) (s .args .marks .now) (s .args .edits .now) (s .args .base) (s .args .q) (s .args .found) _ _ _ _ _ _ _ _ refl (ap isLeaf (sym (kind-is (s .args .words .now) (s .args .numbers .now) (s .args .base))) ∙ sym (at-is-leaf .is-leaf .ensures) ∙ at-if1 .if1 .left) (at-frame-at .frame-at .ensures) (at-perform-final-layout-on-in-flow-children .perform-final-layout-on-in-flow-children .ensures) (at-finish-at .finish-at .ensures) (at-put-head .put-head .ensures) _ (at-align .align .ensures)
+      block-laid (s .args .words .now) (s .args .numbers .now) (s .args .rows .now) (s .args .marks .now) (s .args .edits .now) (s .args .base) (s .args .q) (s .args .found) _ _ _ _ _ _ _ _ refl (ap isLeaf (sym (kind-at (s .args .words .now) (s .args .numbers .now) (s .args .base))) ∙ sym (at-is-leaf .is-leaf .ensures) ∙ at-if1 .if1 .left) (at-frame-at .frame-at .ensures) (at-perform-final-layout-on-in-flow-children .perform-final-layout-on-in-flow-children .ensures) (at-finish-at .finish-at .ensures) (at-put-head .put-head .ensures) _ (at-align .align .ensures)
 
   pub container-meets : {M : Type 1} → lts.Closed calls here reads.Post M
   container-meets =

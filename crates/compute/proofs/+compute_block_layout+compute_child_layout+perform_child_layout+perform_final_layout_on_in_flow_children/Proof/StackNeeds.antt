@@ -10,7 +10,7 @@ use Rattle.walks.specs.Tables.{TabledF}
 use Rattle.compute.proofs.StackLoop.{Rest, Turn, begin, turn, end, start-counts}
 use borrow.Fn.Kinds.{In}
 use Rattle.stacking.proofs.start_of.Reads as start-of-reads
-use Rattle.style.proofs.word.Reads as word-reads
+use Rattle.style.proofs.word_in.Reads as word-in-reads
 use Rattle.compute.proofs.perform_final_layout_on_in_flow_children.Reads as reads
 use Rattle.compute.proofs.perform_final_layout_on_in_flow_children.Kinds as kinds
 use Rattle.compute.proofs.+compute_block_layout+compute_child_layout+perform_child_layout+perform_final_layout_on_in_flow_children.Lts-perform_final_layout_on_in_flow_children as lts
@@ -22,7 +22,7 @@ module _ (t : ℕ) where
   here = stack-at t
 
   abbrev calls : lts.Claims
-  calls = (start-of-reads.Asked, start-of-reads.Learnt, word-reads.Asked, word-reads.Learnt, placed-below t, placed-reads.Post)
+  calls = (start-of-reads.Asked, start-of-reads.Learnt, word-in-reads.Asked, word-in-reads.Learnt, placed-below t, placed-reads.Post)
 
   abbrev Inv : lts.InvT-loop
   Inv words numbers rows₀ marks₀ edits base depth f c₀ a₀ rows marks c a =
@@ -33,11 +33,11 @@ module _ (t : ℕ) where
   μ words numbers rows₀ marks₀ edits base depth f c₀ a₀ rows marks c a = length words - a
 
   -- a turn of the loop, at the forest that the `requires` gives
-  turned : (c : lts.After-word calls here reads.Post Inv μ)
-      → Turn (c .before .before .before .before .before .before .before .before .before .args .words .now) (c .before .before .before .before .before .before .before .before .before .args .numbers .now) (c .before .before .loop .rows) (c .before .before .loop .marks) (c .before .before .before .before .before .before .before .before .before .args .edits .now) (c .before .before .before .before .before .before .before .before .before .args .base) (c .before .before .before .before .before .before .before .before .before .args .f) (c .before .before .before .before .before .before .before .before .before .pre .1 .forest) (c .before .before .loop .c) (c .before .before .loop .a) (c .before .before .loop .a + c .word .result)
+  turned : (c : lts.After-word-in calls here reads.Post Inv μ)
+      → Turn (c .before .before .before .before .before .before .before .before .before .args .words .now) (c .before .before .before .before .before .before .before .before .before .args .numbers .now) (c .before .before .loop .rows) (c .before .before .loop .marks) (c .before .before .before .before .before .before .before .before .before .args .edits .now) (c .before .before .before .before .before .before .before .before .before .args .base) (c .before .before .before .before .before .before .before .before .before .args .f) (c .before .before .before .before .before .before .before .before .before .pre .1 .forest) (c .before .before .loop .c) (c .before .before .loop .a) (c .before .before .loop .a + c .word-in .result)
   turned c =
       let s = c .before .before .before .before .before .before .before .before .before .pre .1 in
-      turn _ _ _ _ _ _ _ (s .forest) _ _ _ (ap (λ (k : ℕ). c .before .before .loop .a + k) (c .word .ensures)) (c .before .before .loop .inv .4 (s .forest) (s .tabled)) (c .before .loop-test .taken)
+      turn _ _ _ _ _ _ _ (s .forest) _ _ _ (ap (λ (k : ℕ). c .before .before .loop .a + k) (c .word-in .ensures)) (c .before .before .loop .inv .4 (s .forest) (s .tabled)) (c .before .loop-test .taken)
 
   start-of-requires : lts.Need-start-of-requires calls here reads.Post Inv μ
   start-of-requires c κs = search needs
@@ -48,8 +48,8 @@ module _ (t : ℕ) where
   mul-loop : lts.Need-mul-loop calls here reads.Post Inv μ
   mul-loop c = let w = c .before .before .before .before .before .before .before .pre .1 .fit in let v = c .before .before .before .before .before .before .before .pre .1 .tabled .words-long in omega (arith, c .loop .inv .2)
 
-  word-requires : lts.Need-word-requires calls here reads.Post Inv μ
-  word-requires c κs = search needs
+  word-in-requires : lts.Need-word-in-requires calls here reads.Post Inv μ
+  word-in-requires c κs = omega (arith, c .loop-test .taken)
 
   cast-e : lts.Need-cast-e calls here reads.Post Inv μ
   cast-e c = let f = turned c in let w = c .before .before .before .before .before .before .before .before .before .pre .1 .fit in let v = c .before .before .before .before .before .before .before .before .before .pre .1 .tabled .words-long in omega arith
@@ -121,9 +121,10 @@ module _ (t : ℕ) where
       let s = at-loop .before .before .before .before .before .before .before in
       let f = turned (at-step) in
       let w = s .pre .1 .fit in
+      let u = s .pre .1 .reach in
       let v = s .pre .1 .tabled .words-long in
       let i = at-loop .loop .inv in
-      (omega (arith, s .pre .0), (record { tree = f .tree; tabled = f .tabled; deep = f .shallow (s .args .depth) (s .pre .1 .deep); fit = omega arith }, record { shown = omega (arith, i .3 .1); count = omega (arith, i .3 .0) }))
+      (omega (arith, s .pre .0), (record { tree = f .tree; tabled = f .tabled; deep = f .shallow (s .args .depth) (s .pre .1 .deep); fit = omega arith; reach = omega arith }, record { shown = omega (arith, i .3 .1); count = omega (arith, i .3 .0) }))
 
   loop-less : lts.Need-loop-less calls here reads.Post Inv μ
   loop-less c =
@@ -135,7 +136,7 @@ module _ (t : ℕ) where
       omega arith
 
   loop-again : lts.Need-loop-again calls here reads.Post Inv μ
-  loop-again c = let f = turned (c .before .before .before .before .before .before .before .before) in let i = c .before .before .before .before .before .before .before .before .before .before .loop .inv in let k = f .counted _ (c .before .before .before .before .perform-child-layout .ensures (f .tree) (f .tabled) .0) in (omega arith, omega arith, omega arith, (omega (arith, k .0, i .3 .0), omega (arith, k .1, i .3 .1)), λ ts h. let g = turn _ _ _ _ _ _ _ ts _ _ _ (ap (λ (k : ℕ). c .before .before .before .before .before .before .before .before .before .before .loop .a + k) (c .before .before .before .before .before .before .before .before .word .ensures)) (c .before .before .before .before .before .before .before .before .before .before .loop .inv .4 ts h) (c .before .before .before .before .before .before .before .before .before .loop-test .taken) in g .next _ _ _ (c .before .before .before .before .perform-child-layout .ensures (g .tree) (g .tabled)))
+  loop-again c = let f = turned (c .before .before .before .before .before .before .before .before) in let i = c .before .before .before .before .before .before .before .before .before .before .loop .inv in let k = f .counted _ (c .before .before .before .before .perform-child-layout .ensures (f .tree) (f .tabled) .0) in (omega arith, omega arith, omega arith, (omega (arith, k .0, i .3 .0), omega (arith, k .1, i .3 .1)), λ ts h. let g = turn _ _ _ _ _ _ _ ts _ _ _ (ap (λ (k : ℕ). c .before .before .before .before .before .before .before .before .before .before .loop .a + k) (c .before .before .before .before .before .before .before .before .word-in .ensures)) (c .before .before .before .before .before .before .before .before .before .before .loop .inv .4 ts h) (c .before .before .before .before .before .before .before .before .before .loop-test .taken) in g .next _ _ _ (c .before .before .before .before .perform-child-layout .ensures (g .tree) (g .tabled)))
 
   same-length : lts.Need-same-length calls here reads.Post Inv μ
   same-length c = c .before .loop .inv .0
@@ -152,7 +153,7 @@ module _ (t : ℕ) where
       start-of-requires
       loop-holds
       mul-loop
-      word-requires
+      word-in-requires
       cast-e
       add-e
       mul-a4

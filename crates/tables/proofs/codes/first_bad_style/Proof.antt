@@ -23,7 +23,7 @@ loop-holds c =
     (omega arith, start (badStyle (now (a .words)) (now (a .numbers))) atNode Nowhere (nodesIn (now (a .words))))
 
 bad-style-requires : tie.Need-bad-style-requires Inv-loop μ-loop
-bad-style-requires c κs = search needs
+bad-style-requires c κs = omega arith
 
 cast-t8 : tie.Need-cast-t8 Inv-loop μ-loop
 cast-t8 c = omega arith

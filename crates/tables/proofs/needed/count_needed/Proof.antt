@@ -24,14 +24,14 @@ loop-holds c =
     let g = c .before .pre in
     (omega arith, g .some, omega arith, λ xs. begin (c .before .args .words .now) xs g)
 
-word-requires : tie.Need-word-requires Inv-loop μ-loop
-word-requires c κs = search needs
+word-in-requires : tie.Need-word-in-requires Inv-loop μ-loop
+word-in-requires c κs = omega arith
 
 flow-at-requires : tie.Need-flow-at-requires Inv-loop μ-loop
 flow-at-requires c κs = search needs
 
-word-requires-2 : tie.Need-word-requires-2 Inv-loop μ-loop
-word-requires-2 c κs = search needs
+word-in-requires-2 : tie.Need-word-in-requires-2 Inv-loop μ-loop
+word-in-requires-2 c κs = omega arith
 
 cast-size : tie.Need-cast-size Inv-loop μ-loop
 cast-size c = search needs
@@ -42,7 +42,7 @@ counted-requires c κs = search needs
 add-count : tie.Need-add-count Inv-loop μ-loop
 add-count c =
     let g = c .before .before .before .before .before .before .before .pre in
-    let u = turn (c .before .before .before .before .before .before .before .args .words .now) [] (c .before .before .before .before .before .loop .i) (c .before .before .before .before .before .loop .count) _ (c .before .word2 .ensures) (c .before .before .before .before .loop-test .taken) (c .before .before .before .before .before .loop .inv .3 []) _ (c .before .before .flow-at .ensures ∙ ap flowAt (c .before .before .before .word .ensures)) in
+    let u = turn (c .before .before .before .before .before .before .before .args .words .now) [] (c .before .before .before .before .before .loop .i) (c .before .before .before .before .before .loop .count) _ (c .before .word-in2 .ensures) (c .before .before .before .before .loop-test .taken) (c .before .before .before .before .before .loop .inv .3 []) _ (c .before .before .flow-at .ensures ∙ ap flowAt (c .before .before .before .word-in .ensures)) in
     omega (arith, g .few, u .most, c .counted .ensures)
 
 passed-requires : tie.Need-passed-requires Inv-loop μ-loop
@@ -51,22 +51,22 @@ passed-requires c κs = search needs
 add-i : tie.Need-add-i Inv-loop μ-loop
 add-i c =
     let g = c .before .before .before .before .before .before .before .before .pre in
-    let u = turn (c .before .before .before .before .before .before .before .before .args .words .now) [] (c .before .before .before .before .before .before .loop .i) (c .before .before .before .before .before .before .loop .count) _ (c .before .before .word2 .ensures) (c .before .before .before .before .before .loop-test .taken) (c .before .before .before .before .before .before .loop .inv .3 []) _ (c .before .before .before .flow-at .ensures ∙ ap flowAt (c .before .before .before .before .word .ensures)) in
+    let u = turn (c .before .before .before .before .before .before .before .before .args .words .now) [] (c .before .before .before .before .before .before .loop .i) (c .before .before .before .before .before .before .loop .count) _ (c .before .before .word-in2 .ensures) (c .before .before .before .before .before .loop-test .taken) (c .before .before .before .before .before .before .loop .inv .3 []) _ (c .before .before .before .flow-at .ensures ∙ ap flowAt (c .before .before .before .before .word-in .ensures)) in
     omega (arith, g .few, u .on, u .within, c .passed .ensures)
 
 loop-less : tie.Need-loop-less Inv-loop μ-loop
 loop-less c =
     let g = c .before .before .before .before .before .before .before .before .pre in
-    let u = turn (c .before .before .before .before .before .before .before .before .args .words .now) [] (c .before .before .before .before .before .before .loop .i) (c .before .before .before .before .before .before .loop .count) _ (c .before .before .word2 .ensures) (c .before .before .before .before .before .loop-test .taken) (c .before .before .before .before .before .before .loop .inv .3 []) _ (c .before .before .before .flow-at .ensures ∙ ap flowAt (c .before .before .before .before .word .ensures)) in
+    let u = turn (c .before .before .before .before .before .before .before .before .args .words .now) [] (c .before .before .before .before .before .before .loop .i) (c .before .before .before .before .before .before .loop .count) _ (c .before .before .word-in2 .ensures) (c .before .before .before .before .before .loop-test .taken) (c .before .before .before .before .before .before .loop .inv .3 []) _ (c .before .before .before .flow-at .ensures ∙ ap flowAt (c .before .before .before .before .word-in .ensures)) in
     omega (arith, g .few, u .on, u .within, c .passed .ensures)
 
 loop-again : tie.Need-loop-again Inv-loop μ-loop
 loop-again c =
-    let u = turn (c .before .before .before .before .before .before .before .before .args .words .now) [] (c .before .before .before .before .before .before .loop .i) (c .before .before .before .before .before .before .loop .count) _ (c .before .before .word2 .ensures) (c .before .before .before .before .before .loop-test .taken) (c .before .before .before .before .before .before .loop .inv .3 []) _ (c .before .before .before .flow-at .ensures ∙ ap flowAt (c .before .before .before .before .word .ensures)) in (
+    let u = turn (c .before .before .before .before .before .before .before .before .args .words .now) [] (c .before .before .before .before .before .before .loop .i) (c .before .before .before .before .before .before .loop .count) _ (c .before .before .word-in2 .ensures) (c .before .before .before .before .before .loop-test .taken) (c .before .before .before .before .before .before .loop .inv .3 []) _ (c .before .before .before .flow-at .ensures ∙ ap flowAt (c .before .before .before .before .word-in .ensures)) in (
       omega (arith, u .on),
       rw (c .passed .ensures) (u .within),
       rw (c .passed .ensures, c .before .counted .ensures) (less (u .on) (u .most) (c .before .before .before .before .before .before .loop .inv .2)),
-      λ xs. rw (c .passed .ensures, c .before .counted .ensures) (turn (c .before .before .before .before .before .before .before .before .args .words .now) xs (c .before .before .before .before .before .before .loop .i) (c .before .before .before .before .before .before .loop .count) _ (c .before .before .word2 .ensures) (c .before .before .before .before .before .loop-test .taken) (c .before .before .before .before .before .before .loop .inv .3 xs) _ (c .before .before .before .flow-at .ensures ∙ ap flowAt (c .before .before .before .before .word .ensures)) .next),
+      λ xs. rw (c .passed .ensures, c .before .counted .ensures) (turn (c .before .before .before .before .before .before .before .before .args .words .now) xs (c .before .before .before .before .before .before .loop .i) (c .before .before .before .before .before .before .loop .count) _ (c .before .before .word-in2 .ensures) (c .before .before .before .before .before .loop-test .taken) (c .before .before .before .before .before .before .loop .inv .3 xs) _ (c .before .before .before .flow-at .ensures ∙ ap flowAt (c .before .before .before .before .word-in .ensures)) .next),
     )
 
 returns : tie.Need-returns Inv-loop μ-loop
@@ -79,9 +79,9 @@ count-needed-spec =
     Inv-loop
     μ-loop
     loop-holds
-    word-requires
+    word-in-requires
     flow-at-requires
-    word-requires-2
+    word-in-requires-2
     cast-size
     counted-requires
     add-count

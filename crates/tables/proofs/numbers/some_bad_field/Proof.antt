@@ -1,75 +1,37 @@
-use borrow.Author.Needs.{needs}
-use mathlib.Core.Path.{_≡_, sym, _∙_}
+use mathlib.Core.Path.{sym, _∙_}
 use denote.Ref.{now}
-use Rattle.style.specs.Style.{wordAt}
-use Rattle.tables.proofs.FieldRuns.{field-runs}
+use Rattle.tables.proofs.PixelRuns.{pixel-runs}
+use borrow.Author.Needs.{needs}
 use Rattle.tables.proofs.numbers.some_bad_field.Statement.{statement}
 use Rattle.tables.proofs.numbers.some_bad_field.Tie as tie
 
-word-requires : tie.Need-word-requires
-word-requires c κs = search needs
+word-in-requires : tie.Need-word-in-requires
+word-in-requires c κs = search needs
 
-word-requires-2 : tie.Need-word-requires-2
-word-requires-2 c κs = search needs
+word-in-requires-2 : tie.Need-word-in-requires-2
+word-in-requires-2 c κs = search needs
 
-some-bad-in-requires : tie.Need-some-bad-in-requires
-some-bad-in-requires c κs = search needs
+some-bad-pixels-requires : tie.Need-some-bad-pixels-requires
+some-bad-pixels-requires c κs = search needs
 
 returns : tie.Need-returns
 returns c =
-    let a = c .before .before .before .before .before .before .args in
-    let at-runs = field-runs (wordAt (now (a .words)) (a .i) 2) (wordAt (now (a .words)) (a .i) 3) (now (a .numbers)) (a .i) in
-    rw (at-runs, ← c .before .before .before .word .ensures, ← c .before .before .word2 .ensures, ← c .before .some-bad-in .ensures, c .if1 .taken)
+    let a = c .before .before .before .before .before .before .before .args in
+    rw (← c .before .before .before .before .word-in .ensures, ← c .before .before .before .word-in2 .ensures) (c .some-bad-pixels .ensures ∙ sym (pixel-runs _ _ (now (a .numbers)) (a .i) (c .before .before .if1 .taken) (c .before .if2 .taken)))
 
-some-bad-in-requires-2 : tie.Need-some-bad-in-requires-2
-some-bad-in-requires-2 c κs = search needs
+some-bad-length-requires : tie.Need-some-bad-length-requires
+some-bad-length-requires c κs = search needs
 
 returns-2 : tie.Need-returns-2
-returns-2 c =
-    let a = c .before .before .before .before .before .before .before .before .args in
-    let at-runs = field-runs (wordAt (now (a .words)) (a .i) 2) (wordAt (now (a .words)) (a .i) 3) (now (a .numbers)) (a .i) in
-    rw (at-runs, ← c .before .before .before .before .before .word .ensures, ← c .before .before .before .before .word2 .ensures, ← c .before .some-bad-in2 .ensures, ← c .before .before .before .some-bad-in .ensures, c .if2 .taken, c .before .before .if1 .left)
-
-some-bad-in-requires-3 : tie.Need-some-bad-in-requires-3
-some-bad-in-requires-3 c κs = search needs
-
-returns-3 : tie.Need-returns-3
-returns-3 c =
-    let a = c .before .before .before .before .before .before .before .before .before .before .args in
-    let at-runs = field-runs (wordAt (now (a .words)) (a .i) 2) (wordAt (now (a .words)) (a .i) 3) (now (a .numbers)) (a .i) in
-    rw (at-runs, ← c .before .before .before .before .before .before .before .word .ensures, ← c .before .before .before .before .before .before .word2 .ensures, ← c .before .some-bad-in3 .ensures, ← c .before .before .before .some-bad-in2 .ensures, ← c .before .before .before .before .before .some-bad-in .ensures, c .if3 .taken, c .before .before .if2 .left, c .before .before .before .before .if1 .left)
-
-some-bad-in-requires-4 : tie.Need-some-bad-in-requires-4
-some-bad-in-requires-4 c κs = search needs
-
-returns-4 : tie.Need-returns-4
-returns-4 c =
-    let a = c .before .before .before .before .before .before .before .before .before .before .before .before .args in
-    let at-runs = field-runs (wordAt (now (a .words)) (a .i) 2) (wordAt (now (a .words)) (a .i) 3) (now (a .numbers)) (a .i) in
-    rw (at-runs, ← c .before .before .before .before .before .before .before .before .before .word .ensures, ← c .before .before .before .before .before .before .before .before .word2 .ensures, ← c .before .some-bad-in4 .ensures, ← c .before .before .before .some-bad-in3 .ensures, ← c .before .before .before .before .before .some-bad-in2 .ensures, ← c .before .before .before .before .before .before .before .some-bad-in .ensures, c .if4 .taken, c .before .before .if3 .left, c .before .before .before .before .if2 .left, c .before .before .before .before .before .before .if1 .left)
-
-some-bad-in-requires-5 : tie.Need-some-bad-in-requires-5
-some-bad-in-requires-5 c κs = search needs
-
-returns-5 : tie.Need-returns-5
-returns-5 c =
-    let a = c .before .before .before .before .before .before .before .before .before .before .before .before .before .args in
-    let at-runs = field-runs (wordAt (now (a .words)) (a .i) 2) (wordAt (now (a .words)) (a .i) 3) (now (a .numbers)) (a .i) in
-    rw (at-runs, ← c .before .before .before .before .before .before .before .before .before .before .word .ensures, ← c .before .before .before .before .before .before .before .before .before .word2 .ensures, c .some-bad-in5 .ensures, ← c .before .before .some-bad-in4 .ensures, ← c .before .before .before .before .some-bad-in3 .ensures, ← c .before .before .before .before .before .before .some-bad-in2 .ensures, ← c .before .before .before .before .before .before .before .before .some-bad-in .ensures, c .before .if4 .left, c .before .before .before .if3 .left, c .before .before .before .before .before .if2 .left, c .before .before .before .before .before .before .before .if1 .left)
+returns-2 c = rw (← c .before .before .before .word-in .ensures, ← c .before .before .word-in2 .ensures) (c .some-bad-length .ensures)
 
 pub some-bad-field-spec : {M : Type 1} → statement M
 some-bad-field-spec =
     tie.close
     (tie.spec
-    word-requires
-    word-requires-2
-    some-bad-in-requires
+    word-in-requires
+    word-in-requires-2
+    some-bad-pixels-requires
     returns
-    some-bad-in-requires-2
-    returns-2
-    some-bad-in-requires-3
-    returns-3
-    some-bad-in-requires-4
-    returns-4
-    some-bad-in-requires-5
-    returns-5)
+    some-bad-length-requires
+    returns-2)

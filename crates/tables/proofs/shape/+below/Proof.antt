@@ -10,7 +10,7 @@ use borrow.Fn.PlainCycle.{Measures, is, falls, and}
 use Rattle.tables.proofs.shape.below.Reads as below
 use Rattle.tables.proofs.shape.below.Kinds as below-kinds
 use Rattle.tables.proofs.shape.+below.Lts-below as below-lts
-use Rattle.style.proofs.word.Reads as word-reads
+use Rattle.style.proofs.word_in.Reads as word-in-reads
 use Rattle.tables.proofs.shape.node_fault.Reads as node-fault-reads
 use Rattle.tables.proofs.shape.+below.{statement}
 use Rattle.tables.proofs.shape.+below.Tie.{close}
@@ -25,7 +25,7 @@ abbrev below-below : ℕ → In 1 below-kinds.ps
 below-below t = and 1 below-kinds.ps (falls 1 below-kinds.ps _<_ μ-below t) below.Pre
 
 abbrev below-calls : ℕ → below-lts.Claims
-below-calls t = (word-reads.Asked, word-reads.Learnt, node-fault-reads.Asked, node-fault-reads.Learnt, below-below t, below.Post)
+below-calls t = (word-in-reads.Asked, word-in-reads.Learnt, node-fault-reads.Asked, node-fault-reads.Learnt, below-below t, below.Post)
 
 abbrev below-Inv-loop : below-lts.InvT-loop
 below-Inv-loop words base depth n a₀ a = (a ≤ nodesIn words) × Reached words base depth a
@@ -36,14 +36,14 @@ below-μ-loop words base depth n a₀ a = nodesIn words - a
 below-loop-holds : (t : ℕ) → below-lts.Need-loop-holds (below-calls t) (below-at t) below.Post below-Inv-loop below-μ-loop
 below-loop-holds t c = (omega arith, reached-none _ _ _)
 
-below-word-requires : (t : ℕ) → below-lts.Need-word-requires (below-calls t) (below-at t) below.Post below-Inv-loop below-μ-loop
-below-word-requires t c κs = search needs
+below-word-in-requires : (t : ℕ) → below-lts.Need-word-in-requires (below-calls t) (below-at t) below.Post below-Inv-loop below-μ-loop
+below-word-in-requires t c κs = omega arith
 
 below-cast-size : (t : ℕ) → below-lts.Need-cast-size (below-calls t) (below-at t) below.Post below-Inv-loop below-μ-loop
 below-cast-size t c = search needs
 
-below-word-requires-2 : (t : ℕ) → below-lts.Need-word-requires-2 (below-calls t) (below-at t) below.Post below-Inv-loop below-μ-loop
-below-word-requires-2 t c κs = search needs
+below-word-in-requires-2 : (t : ℕ) → below-lts.Need-word-in-requires-2 (below-calls t) (below-at t) below.Post below-Inv-loop below-μ-loop
+below-word-in-requires-2 t c κs = omega arith
 
 below-sub-node-fault : (t : ℕ) → below-lts.Need-sub-node-fault (below-calls t) (below-at t) below.Post below-Inv-loop below-μ-loop
 below-sub-node-fault t c = omega arith
@@ -58,7 +58,7 @@ below-cast-t18 : (t : ℕ) → below-lts.Need-cast-t18 (below-calls t) (below-at
 below-cast-t18 t c = omega (arith, c .before .before .before .before .before .before .before .pre .1)
 
 below-returns : (t : ℕ) → below-lts.Need-returns (below-calls t) (below-at t) below.Post below-Inv-loop below-μ-loop
-below-returns t c = bad-here (c .before .before .before .before .before .before .before .args .words .now) (c .before .before .before .before .before .before .before .args .base) (c .before .before .before .before .before .before .before .args .depth) (c .before .before .before .before .before .loop .a) _ _ (c .before .before .before .word .ensures) (c .before .before .word2 .ensures) (c .before .before .before .before .loop-test .taken) (c .before .before .before .before .before .loop .inv .1) (sym (c .before .node-fault .ensures) ∙ c .if1 .taken)
+below-returns t c = bad-here (c .before .before .before .before .before .before .before .args .words .now) (c .before .before .before .before .before .before .before .args .base) (c .before .before .before .before .before .before .before .args .depth) (c .before .before .before .before .before .loop .a) _ _ (c .before .before .before .word-in .ensures) (c .before .before .word-in2 .ensures) (c .before .before .before .before .loop-test .taken) (c .before .before .before .before .before .loop .inv .1) (sym (c .before .node-fault .ensures) ∙ c .if1 .taken)
 
 below-add-b : (t : ℕ) → below-lts.Need-add-b (below-calls t) (below-at t) below.Post below-Inv-loop below-μ-loop
 below-add-b t c = let g = fine _ _ _ _ (sym (c .before .node-fault .ensures) ∙ c .if1 .left) in omega arith
@@ -91,13 +91,13 @@ below-sub-below-2 : (t : ℕ) → below-lts.Need-sub-below-2 (below-calls t) (be
 below-sub-below-2 t c = let g = fine _ _ _ _ (sym (c .before .before .node-fault .ensures) ∙ c .before .if1 .left) in omega arith
 
 below-below-requires : (t : ℕ) → below-lts.Need-below-requires (below-calls t) (below-at t) below.Post below-Inv-loop below-μ-loop
-below-below-requires t c κs = let g = fine _ _ _ _ (sym (c .before .before .node-fault .ensures) ∙ c .before .if1 .left) in let k = run-nodes (c .before .before .before .before .before .before .before .before .args .words .now) (c .before .before .before .before .before .before .before .before .args .base) (c .before .before .before .before .before .before .before .before .args .depth) (c .before .before .before .before .before .before .loop .a) _ _ (c .before .before .before .before .word .ensures) (c .before .before .before .word2 .ensures) (c .before .before .before .before .before .loop-test .taken) (c .before .before .before .before .before .before .loop .inv .1) (sym (c .before .before .node-fault .ensures) ∙ c .before .if1 .left) in (omega (arith, c .before .before .before .before .before .before .before .before .pre .0), omega (arith, c .before .before .before .before .before .before .before .before .pre .1))
+below-below-requires t c κs = let g = fine _ _ _ _ (sym (c .before .before .node-fault .ensures) ∙ c .before .if1 .left) in let k = run-nodes (c .before .before .before .before .before .before .before .before .args .words .now) (c .before .before .before .before .before .before .before .before .args .base) (c .before .before .before .before .before .before .before .before .args .depth) (c .before .before .before .before .before .before .loop .a) _ _ (c .before .before .before .before .word-in .ensures) (c .before .before .before .word-in2 .ensures) (c .before .before .before .before .before .loop-test .taken) (c .before .before .before .before .before .before .loop .inv .1) (sym (c .before .before .node-fault .ensures) ∙ c .before .if1 .left) in (omega (arith, c .before .before .before .before .before .before .before .before .pre .0), omega (arith, c .before .before .before .before .before .before .before .before .pre .1))
 
 below-enum-known-found : (t : ℕ) → below-lts.Need-enum-known-found (below-calls t) (below-at t) below.Post below-Inv-loop below-μ-loop
 below-enum-known-found t c = search needs
 
 below-returns-2 : (t : ℕ) → below-lts.Need-returns-2 (below-calls t) (below-at t) below.Post below-Inv-loop below-μ-loop
-below-returns-2 t c = found (c .before .before .before .before .before .before .before .before .before .before .before .before .args .words .now) (c .before .before .before .before .before .before .before .before .before .before .before .before .args .base) (c .before .before .before .before .before .before .before .before .before .before .before .before .args .depth) (c .before .before .before .before .before .before .before .before .before .before .loop .a) _ _ (c .before .before .before .before .before .before .before .before .word .ensures) (c .before .before .before .before .before .before .before .word2 .ensures) (c .before .before .before .before .before .before .before .before .before .loop-test .taken) (c .before .before .before .before .before .before .before .before .before .before .loop .inv .1) (sym (c .before .before .before .before .before .before .node-fault .ensures) ∙ c .before .before .before .before .before .if1 .left) _ (c .before .before .before .below .ensures) _ (c .before .found .given .1)
+below-returns-2 t c = found (c .before .before .before .before .before .before .before .before .before .before .before .before .args .words .now) (c .before .before .before .before .before .before .before .before .before .before .before .before .args .base) (c .before .before .before .before .before .before .before .before .before .before .before .before .args .depth) (c .before .before .before .before .before .before .before .before .before .before .loop .a) _ _ (c .before .before .before .before .before .before .before .before .word-in .ensures) (c .before .before .before .before .before .before .before .word-in2 .ensures) (c .before .before .before .before .before .before .before .before .before .loop-test .taken) (c .before .before .before .before .before .before .before .before .before .before .loop .inv .1) (sym (c .before .before .before .before .before .before .node-fault .ensures) ∙ c .before .before .before .before .before .if1 .left) _ (c .before .before .before .below .ensures) _ (c .before .found .given .1)
 
 below-enum-told : (t : ℕ) → below-lts.Need-enum-told (below-calls t) (below-at t) below.Post below-Inv-loop below-μ-loop
 below-enum-told t c = search needs
@@ -106,7 +106,7 @@ below-loop-less : (t : ℕ) → below-lts.Need-loop-less (below-calls t) (below-
 below-loop-less t c = let g = fine _ _ _ _ (sym (c .before .before .before .before .before .node-fault .ensures) ∙ c .before .before .before .before .if1 .left) in omega arith
 
 below-loop-again : (t : ℕ) → below-lts.Need-loop-again (below-calls t) (below-at t) below.Post below-Inv-loop below-μ-loop
-below-loop-again t c = let g = fine _ _ _ _ (sym (c .before .before .before .before .before .node-fault .ensures) ∙ c .before .before .before .before .if1 .left) in (omega arith, next (c .before .before .before .before .before .before .before .before .before .before .before .args .words .now) (c .before .before .before .before .before .before .before .before .before .before .before .args .base) (c .before .before .before .before .before .before .before .before .before .before .before .args .depth) (c .before .before .before .before .before .before .before .before .before .loop .a) _ _ (c .before .before .before .before .before .before .before .word .ensures) (c .before .before .before .before .before .before .word2 .ensures) (c .before .before .before .before .before .before .before .before .loop-test .taken) (c .before .before .before .before .before .before .before .before .before .loop .inv .1) (sym (c .before .before .before .before .before .node-fault .ensures) ∙ c .before .before .before .before .if1 .left) _ (c .before .before .below .ensures) (c .enum-told .given .1))
+below-loop-again t c = let g = fine _ _ _ _ (sym (c .before .before .before .before .before .node-fault .ensures) ∙ c .before .before .before .before .if1 .left) in (omega arith, next (c .before .before .before .before .before .before .before .before .before .before .before .args .words .now) (c .before .before .before .before .before .before .before .before .before .before .before .args .base) (c .before .before .before .before .before .before .before .before .before .before .before .args .depth) (c .before .before .before .before .before .before .before .before .before .loop .a) _ _ (c .before .before .before .before .before .before .before .word-in .ensures) (c .before .before .before .before .before .before .word-in2 .ensures) (c .before .before .before .before .before .before .before .before .loop-test .taken) (c .before .before .before .before .before .before .before .before .before .loop .inv .1) (sym (c .before .before .before .before .before .node-fault .ensures) ∙ c .before .before .before .before .if1 .left) _ (c .before .before .below .ensures) (c .enum-told .given .1))
 
 below-returns-3 : (t : ℕ) → below-lts.Need-returns-3 (below-calls t) (below-at t) below.Post below-Inv-loop below-μ-loop
 below-returns-3 t c = reached-all (c .before .before .before .args .words .now) _ _ _ (c .loop-test .left) (c .before .loop .inv .1)
@@ -122,9 +122,9 @@ pub +below-spec : {M : Type 1} → statement M
     below-Inv-loop
     below-μ-loop
     (below-loop-holds t)
-    (below-word-requires t)
+    (below-word-in-requires t)
     (below-cast-size t)
-    (below-word-requires-2 t)
+    (below-word-in-requires-2 t)
     (below-sub-node-fault t)
     (below-node-fault-requires t)
     (below-add-t17 t)

@@ -1,0 +1,14 @@
+use Rattle.reader.specs.Reader.{styleIn}
+use borrow.Author.Needs.{needs}
+use Rattle.reader.proofs.inset.Statement.{statement}
+use Rattle.reader.proofs.inset.Tie as tie
+
+sides-requires : tie.Need-sides-requires
+sides-requires c κs = search needs
+
+returns : tie.Need-returns
+unfolding styleIn
+returns c = c .sides .ensures
+
+pub inset-spec : {M : Type 1} → statement M
+inset-spec = tie.close (tie.spec sides-requires returns)

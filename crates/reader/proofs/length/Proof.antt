@@ -1,0 +1,18 @@
+use borrow.Author.Needs.{needs}
+use Rattle.reader.proofs.length.Statement.{statement}
+use Rattle.reader.proofs.length.Tie as tie
+
+code-requires : tie.Need-code-requires
+code-requires c κs = search needs
+
+number-requires : tie.Need-number-requires
+number-requires c κs = search needs
+
+length-from-requires : tie.Need-length-from-requires
+length-from-requires c κs = search needs
+
+returns : tie.Need-returns
+returns c = rw (c .length-from .ensures, c .before .number .ensures, c .before .before .code .ensures)
+
+pub length-spec : {M : Type 1} → statement M
+length-spec = tie.close (tie.spec code-requires number-requires length-from-requires returns)

@@ -1,0 +1,14 @@
+use Rattle.reader.specs.Reader.{styleIn}
+use borrow.Author.Needs.{needs}
+use Rattle.reader.proofs.min.Statement.{statement}
+use Rattle.reader.proofs.min.Tie as tie
+
+pair-requires : tie.Need-pair-requires
+pair-requires c κs = search needs
+
+returns : tie.Need-returns
+unfolding styleIn
+returns c = c .pair .ensures
+
+pub min-spec : {M : Type 1} → statement M
+min-spec = tie.close (tie.spec pair-requires returns)

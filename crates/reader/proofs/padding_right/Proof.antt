@@ -1,0 +1,15 @@
+use Rattle.style.specs.Fields.{rectIn}
+use Rattle.reader.specs.Reader.{styleIn}
+use borrow.Author.Needs.{needs}
+use Rattle.reader.proofs.padding_right.Statement.{statement}
+use Rattle.reader.proofs.padding_right.Tie as tie
+
+length-requires : tie.Need-length-requires
+length-requires c κs = search needs
+
+returns : tie.Need-returns
+unfolding styleIn rectIn
+returns c = c .length .ensures
+
+pub padding-right-spec : {M : Type 1} → statement M
+padding-right-spec = tie.close (tie.spec length-requires returns)
