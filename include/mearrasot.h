@@ -24,7 +24,7 @@ extern "C" {
  * is not in the archive: take header and archive from the same commit.
  */
 #define MEARRASOT_VERSION_MAJOR 3
-#define MEARRASOT_VERSION_MINOR 1
+#define MEARRASOT_VERSION_MINOR 2
 #define MEARRASOT_VERSION_PATCH 0
 
 /* ---- Limits ---- */

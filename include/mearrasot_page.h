@@ -58,6 +58,26 @@ struct mearrasot_builder {
     uint32_t overflowed; /* there are more than edits has room for */
     uint32_t open[MEARRASOT_MAX_DEPTH];
     uint32_t edits[MEARRASOT_MAX_EDITS];
+    struct mearrasot_panel *panels; /* the last that was added, of mearrasot_panels.h */
+};
+
+/* A further panel over the same nodes: see mearrasot_panels.h. */
+struct mearrasot_panel {
+    /* Lent. */
+    float *rows;
+    uint32_t *marks;
+    uint32_t *pairs;
+    float *triples;
+    size_t room; /* nodes */
+    size_t records;
+    /* To be read only: as in the builder, for this panel. */
+    uint32_t laid;
+    uint32_t relaid;
+    uint32_t edited;
+    uint32_t overflowed;
+    uint32_t edits[MEARRASOT_MAX_EDITS];
+    const struct mearrasot_builder *page;
+    struct mearrasot_panel *next;
 };
 
 /* A page with room for that many nodes and candidate records, with its memory. */
@@ -67,7 +87,7 @@ struct mearrasot_builder {
     static uint32_t name##_pairs[MEARRASOT_PAIR * (records_) + 1]; \
     static float name##_triples[MEARRASOT_TRIPLE * (records_) + 1]; \
     static struct mearrasot_builder name = {name##_words, name##_numbers, name##_rows, name##_marks, \
-        name##_pairs, name##_triples, (nodes_), (records_), 0, 0, 0, 0, 0, 0, 0, {0}, {0}}
+        name##_pairs, name##_triples, (nodes_), (records_), 0, 0, 0, 0, 0, 0, 0, {0}, {0}, NULL}
 
 /* ---- Building ---- */
 
@@ -87,7 +107,11 @@ static inline void mearrasot_pack(struct mearrasot_builder *b) {
 
 /* Starts a page anew, in the same memory. */
 static inline void mearrasot_begin(struct mearrasot_builder *b) {
+    struct mearrasot_panel *p;
     b->nodes = b->depth = b->fault = b->laid = b->relaid = b->edited = b->overflowed = 0u;
+    for (p = b->panels; p != NULL; p = p->next) {
+        p->laid = p->relaid = p->edited = p->overflowed = 0u;
+    }
 }
 
 static inline void mearrasot_blame(struct mearrasot_builder *b, uint32_t fault) {
@@ -156,21 +180,31 @@ static inline uint32_t mearrasot_bits(float x) {
     return bits;
 }
 
-/* Notes that a node was edited since the last accepted call. */
-static inline void mearrasot_note(struct mearrasot_builder *b, uint32_t node) {
+/* A node in one list, once. */
+static inline void mearrasot_enter(uint32_t node, uint32_t *edits, uint32_t *edited, uint32_t *overflowed) {
     uint32_t k;
-    if (!b->laid) {
-        return;
-    }
-    for (k = 0u; k < b->edited; k++) {
-        if (b->edits[k] == node) {
+    for (k = 0u; k < *edited; k++) {
+        if (edits[k] == node) {
             return;
         }
     }
-    if (b->edited == MEARRASOT_MAX_EDITS) {
-        b->overflowed = 1u;
+    if (*edited == MEARRASOT_MAX_EDITS) {
+        *overflowed = 1u;
     } else {
-        b->edits[b->edited++] = node;
+        edits[(*edited)++] = node;
+    }
+}
+
+/* Notes that a node was edited: for the page and for each panel, since its own last accepted call. */
+static inline void mearrasot_note(struct mearrasot_builder *b, uint32_t node) {
+    struct mearrasot_panel *p;
+    if (b->laid) {
+        mearrasot_enter(node, b->edits, &b->edited, &b->overflowed);
+    }
+    for (p = b->panels; p != NULL; p = p->next) {
+        if (p->laid) {
+            mearrasot_enter(node, p->edits, &p->edited, &p->overflowed);
+        }
     }
 }
 
@@ -332,33 +366,45 @@ static inline void mearrasot_forget(struct mearrasot_builder *b) {
     b->laid = b->edited = b->overflowed = 0u;
 }
 
+/* What keeps a page from being laid out. */
+static inline uint32_t mearrasot_fault_of(const struct mearrasot_builder *b) {
+    if (b->fault == MEARRASOT_FAULT_NONE && (b->nodes == 0u || b->depth > 0u)) {
+        return MEARRASOT_FAULT_OPEN;
+    }
+    return b->fault;
+}
+
+/* One list with its tables: a relayout where it may be, else a layout. An accepted call empties the list. */
+static inline uint64_t mearrasot_lay_by(const struct mearrasot_page *p, struct mearrasot_question q,
+                                        const uint32_t *edits, uint32_t *laid, uint32_t *relaid, uint32_t *edited,
+                                        uint32_t *overflowed) {
+    uint64_t answer;
+    *relaid = *laid && !*overflowed;
+    answer = *relaid ? mearrasot_relayout_page(p, edits, *edited, q) : mearrasot_layout_page(p, q);
+    if (mearrasot_number(answer) == MEARRASOT_NOT_LAID) { /* the marks were lost */
+        *relaid = 0u;
+        answer = mearrasot_layout_page(p, q);
+    }
+    if (mearrasot_number(answer) == MEARRASOT_DONE) {
+        *laid = 1u;
+        *edited = *overflowed = 0u;
+    } else if (mearrasot_number(answer) == MEARRASOT_TOO_LARGE) { /* rows and marks are 0 */
+        *laid = *edited = *overflowed = 0u;
+    }
+    return answer;
+}
+
 /*
  * Lays the page out: again from what was kept if the last accepted call left it
  * and at most 64 nodes were edited since, else afresh. The result is the same.
  */
 static inline uint64_t mearrasot_lay(struct mearrasot_builder *b, struct mearrasot_question q) {
     const struct mearrasot_page p = mearrasot_page_of(b);
-    uint32_t fault = b->fault;
-    uint64_t answer;
-    if (fault == MEARRASOT_FAULT_NONE && (b->nodes == 0u || b->depth > 0u)) {
-        fault = MEARRASOT_FAULT_OPEN;
-    }
+    const uint32_t fault = mearrasot_fault_of(b);
     if (fault != MEARRASOT_FAULT_NONE) {
         return (uint64_t)MEARRASOT_UNBUILT << 32 | fault;
     }
-    b->relaid = b->laid && !b->overflowed;
-    answer = b->relaid ? mearrasot_relayout_page(&p, b->edits, b->edited, q) : mearrasot_layout_page(&p, q);
-    if (mearrasot_number(answer) == MEARRASOT_NOT_LAID) { /* the marks were lost */
-        b->relaid = 0u;
-        answer = mearrasot_layout_page(&p, q);
-    }
-    if (mearrasot_number(answer) == MEARRASOT_DONE) {
-        b->laid = 1u;
-        b->edited = b->overflowed = 0u;
-    } else if (mearrasot_number(answer) == MEARRASOT_TOO_LARGE) { /* rows and marks are 0 */
-        mearrasot_forget(b);
-    }
-    return answer;
+    return mearrasot_lay_by(&p, q, b->edits, &b->laid, &b->relaid, &b->edited, &b->overflowed);
 }
 
 /*

@@ -56,7 +56,7 @@ pub struct Turn {
 }
 
 // One more edit in the list, if there is room. The first 65 say all.
-fn note(node: u32, count: usize, list: &mut [u32]) -> usize
+pub fn note(node: u32, count: usize, list: &mut [u32]) -> usize
     ensures { λ r. ⌜ noted node (now (list .entry)) count ≡ (now (list .exit), r) ⌝ }
 {
     if list.len() <= count {
