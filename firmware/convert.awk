@@ -17,6 +17,7 @@ BEGIN {
     want["mearrasot_scroll"] = "s float ptr"
     want["mearrasot_coarse"] = "s s s s"
     want["mearrasot_keeps_order"] = "s s"
+    want["mearrasot_in_profile"] = "s s float float float float i32"
 }
 function stop(why) {
     print "convert: line " NR ": " why ": " substr($0, 1, 120) > "/dev/stderr"
@@ -103,8 +104,8 @@ function stop(why) {
 { stop("an unknown line") }
 END {
     if (bad) exit 1
-    if (changed != 3 || exported != 7) {
-        print "convert: " changed + 0 " of 3 lines changed, " exported + 0 " of 7 functions exported" > "/dev/stderr"
+    if (changed != 3 || exported != 8) {
+        print "convert: " changed + 0 " of 3 lines changed, " exported + 0 " of 8 functions exported" > "/dev/stderr"
         exit 1
     }
     print "convert: " functions " functions, " instructions " instructions, 3 lines changed" > "/dev/stderr"

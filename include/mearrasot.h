@@ -24,7 +24,7 @@ extern "C" {
  * is not in the archive: take header and archive from the same commit.
  */
 #define MEARRASOT_VERSION_MAJOR 3
-#define MEARRASOT_VERSION_MINOR 2
+#define MEARRASOT_VERSION_MINOR 3
 #define MEARRASOT_VERSION_PATCH 0
 
 /* ---- Limits ---- */
@@ -209,7 +209,7 @@ enum mearrasot_row {
 
 /*
  * how, a sum of bits. Bits 2-3 are the kind of available width; 0 there means
- * max-content. Bits from 8 on are ignored.
+ * max-content. Bits from 9 on are ignored.
  */
 #define MEARRASOT_KNOWN_WIDTH (1u << 0)  /* known_width counts, else it is not read */
 #define MEARRASOT_KNOWN_HEIGHT (1u << 1) /* known_height counts */
@@ -220,12 +220,13 @@ enum mearrasot_row {
 #define MEARRASOT_END (1u << 5)          /* so may its bottom margin */
 #define MEARRASOT_WIDTH_ONLY (1u << 6)   /* mearrasot_size alone */
 #define MEARRASOT_DEFINITE_HEIGHT (1u << 7) /* fractions of heights may take known_height for a basis */
+#define MEARRASOT_PROFILE (1u << 8)      /* asked as profile: a page that is not of it is refused with 11 */
 
 /* ---- The answer ---- */
 
 /*
  * An answer has a number (upper 32 bits) and a place (lower 32 bits). Refusals
- * are tested in this order; each is given exactly if it is due.
+ * are tested in this order, but 11 after 4; each is given exactly if it is due.
  */
 enum mearrasot_answer {
     MEARRASOT_DONE = 0,       /* accepted; place: the count of candidates, 0 for a size, an index, a scroll key, whole pixels */
@@ -239,6 +240,7 @@ enum mearrasot_answer {
     MEARRASOT_TOO_LARGE = 8,  /* a result of 16,777,216 or more; the lowest node, 0 for a size */
     MEARRASOT_BAD_LIST = 9,   /* over 256 leaves, not ascending, no node, no leaf, not laid; its index, or 256. mearrasot_index alone */
     MEARRASOT_NOT_FINITE = 10, /* y is NaN or infinite; place 0. mearrasot_scroll alone */
+    MEARRASOT_OUTSIDE = 11,   /* asked with MEARRASOT_PROFILE, and not of the profile; the lowest node, n for the question */
     MEARRASOT_TOO_FAR = 12    /* an edge on the page of 16,777,216 or more; the lowest laid node. mearrasot_coarse alone */
 };
 
@@ -261,7 +263,7 @@ static inline uint32_t mearrasot_place(uint64_t answer) {
  * references, and the compiler may use that these are not null. The calls of
  * mearrasot_tables.h and mearrasot_page.h take null for a slice of no entries.
  *
- * Of a layout and a relayout, 1 to 7 leave all lent memory as it was; 8 leaves
+ * Of a layout and a relayout, 1 to 7 and 11 leave all lent memory as it was; 8 leaves
  * rows and marks zero, and the candidates as they were. Accepted, every row and
  * mark is written; pairs and triples are written up to the count and not past it.
  */
@@ -361,6 +363,27 @@ uint64_t mearrasot_coarse(const uint32_t *words, uint64_t words_len,
  */
 uint64_t mearrasot_keeps_order(const uint32_t *words, uint64_t words_len,
                                const float *numbers, uint64_t numbers_len);
+
+/*
+ * The whole-pixel profile: 0 if the page and the question are of it, else the
+ * answer that says why not: 1 to 4 as mearrasot_size gives them, or 11. Of the
+ * profile is a page with, at every node whatever its kind,
+ *   pixels, the scrollbar and the leaf's numbers (the baseline too) whole and at
+ *     most 1,024 in magnitude; what an auto field holds does not matter;
+ *   no fraction and no ratio;
+ *   no center, safe or not, no space-around and no space-evenly;
+ *   not both side margins auto, but for the root;
+ * and a question whose numbers, as far as they count, are so too. Asked with
+ * MEARRASOT_PROFILE, the layout, relayout and size of any other page are refused
+ * with 11, after 1 to 4 and before 5. The layout of such a page is exact: every
+ * number of a row is the whole number that the same steps give on integers, and
+ * 8 is not given. how is read as by the calls; bits 6 and 8 do not matter.
+ */
+uint64_t mearrasot_in_profile(const uint32_t *words, uint64_t words_len,
+                              const float *numbers, uint64_t numbers_len,
+                              float known_width, float known_height,
+                              float parent_width, float available,
+                              uint32_t how);
 
 #ifdef __cplusplus
 }

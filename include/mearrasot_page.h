@@ -428,7 +428,7 @@ static inline const char *mearrasot_text(uint64_t answer) {
     static const char *const texts[] = {
         "done", "tables of a wrong length", "not a tree", "unknown code or forbidden unit",
         "number out of range", "too few records lent", "bad edit list", "nothing kept",
-        "result too large", "bad list of leaves", "y is not finite", "unknown answer",
+        "result too large", "bad list of leaves", "y is not finite", "not of the whole-pixel profile",
         "edge too far for whole pixels"
     };
     static const char *const faults[] = {

@@ -283,6 +283,21 @@ static inline uint64_t mearrasot_keeps_order_page(const struct mearrasot_page *p
                                  MEARRASOT_SLICE(p->numbers, MEARRASOT_NUMBERS * p->nodes, number));
 }
 
+static inline uint64_t mearrasot_in_profile_page(const struct mearrasot_page *p, struct mearrasot_question q) {
+    uint32_t word[1] = {0};
+    float number[1] = {0};
+    return mearrasot_in_profile(
+        MEARRASOT_SLICE(p->words, MEARRASOT_WORDS * p->nodes, word),
+        MEARRASOT_SLICE(p->numbers, MEARRASOT_NUMBERS * p->nodes, number),
+        q.known_width, q.known_height, q.parent_width, q.available, q.how);
+}
+
+/* The same question, asked as profile. */
+static inline struct mearrasot_question mearrasot_as_profile(struct mearrasot_question q) {
+    q.how |= MEARRASOT_PROFILE;
+    return q;
+}
+
 /* ---- A part of a page ---- */
 
 /*

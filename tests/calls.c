@@ -37,10 +37,11 @@ static unsigned char *area[PARTS];
 static void *lent[PARTS];
 
 static struct mearrasot_question question;
+static const char kinds[] = "lrsp"; /* layout, relayout, size, profile */
 static char kind;
 static uint64_t expected;
 static char line[LINE];
-static unsigned long at_line, calls, by_kind[3], wrong, said;
+static unsigned long at_line, calls, by_kind[4], wrong, said;
 
 static void stop(const char *why) {
     fprintf(stderr, "calls: line %lu: %s\n", at_line, why);
@@ -185,6 +186,13 @@ static int read_call(void) {
         stop("a call begins with op");
     }
     kind = needed()[0];
+    key = word();
+    if (key != NULL) {
+        if (strcmp(key, "profile") != 0) {
+            stop("asked as what?");
+        }
+        question.how |= MEARRASOT_PROFILE;
+    }
     while ((key = next_key()) != NULL && strcmp(key, "end") != 0) {
         if (strcmp(key, "known") == 0) {
             question.known_width = known(MEARRASOT_KNOWN_WIDTH);
@@ -244,6 +252,10 @@ static void lend(int before) {
 
 static uint64_t call(void) {
     const struct mearrasot_question q = question;
+    if (kind == 'p') {
+        return mearrasot_in_profile(lent[WORDS], given[WORDS].count, lent[NUMBERS], given[NUMBERS].count,
+                                    q.known_width, q.known_height, q.parent_width, q.available, q.how);
+    }
     if (kind == 's') {
         return mearrasot_size(lent[WORDS], given[WORDS].count, lent[NUMBERS], given[NUMBERS].count,
                               lent[SIZE], q.known_width, q.known_height, q.parent_width, q.available, q.how);
@@ -287,7 +299,8 @@ static int as_left(int k) {
 }
 
 static int agrees(void) {
-    const int size = kind == 's';
+    const int first = kind == 's' ? SIZE : kind == 'p' ? PARTS : ROWS;
+    const int last = kind == 's' ? SIZE : TRIPLES;
     uint64_t answer = call();
     int k;
     if (answer != expected) {
@@ -298,7 +311,7 @@ static int agrees(void) {
         }
         return 0;
     }
-    for (k = size ? SIZE : ROWS; k <= (size ? SIZE : TRIPLES); k++) {
+    for (k = first; k <= last; k++) {
         if (!as_left(k)) {
             return 0;
         }
@@ -321,11 +334,11 @@ int main(int argc, char **argv) {
     }
     while (read_call()) {
         read_result();
-        if (kind != 'l' && kind != 'r' && kind != 's') {
+        if (strchr(kinds, kind) == NULL) {
             stop("an unknown call");
         }
         calls++;
-        by_kind[kind == 'l' ? 0 : kind == 'r' ? 1 : 2]++;
+        by_kind[strchr(kinds, kind) - kinds]++;
         good = 1;
         for (before = 0; before < 2; before++) {
             lend(before);
@@ -333,7 +346,7 @@ int main(int argc, char **argv) {
         }
         wrong += !good;
     }
-    printf("calls: %lu calls (%lu layouts, %lu relayouts, %lu sizes), %lu differ\n", calls, by_kind[0],
-           by_kind[1], by_kind[2], wrong);
+    printf("calls: %lu calls (%lu layouts, %lu relayouts, %lu sizes, %lu of the profile), %lu differ\n", calls,
+           by_kind[0], by_kind[1], by_kind[2], by_kind[3], wrong);
     return wrong != 0 || calls == 0;
 }

@@ -73,6 +73,21 @@ static void test_coarse(void) {
     CHECK(strcmp(mearrasot_text((uint64_t)MEARRASOT_TOO_FAR << 32), "edge too far for whole pixels") == 0);
 }
 
+/* Asked as profile: what is refused with 11 keeps rows and notes, and a later call goes on from there. */
+static void test_profile(void) {
+    const struct mearrasot_question q = mearrasot_screen(240), asked = mearrasot_as_profile(q);
+    uint64_t answer;
+    build(&page, 24);
+    answer = mearrasot_lay(&page, q);
+    CHECK(mearrasot_number(answer) == MEARRASOT_DONE);
+    mearrasot_height_px(&page, TEXT, 24.5f);
+    answer = mearrasot_lay(&page, asked);
+    CHECK(mearrasot_number(answer) == MEARRASOT_OUTSIDE && page.relaid && page.laid && page.edited == 1);
+    CHECK(strcmp(mearrasot_text(answer), "not of the whole-pixel profile") == 0);
+    answer = mearrasot_lay(&page, q);
+    CHECK(mearrasot_number(answer) == MEARRASOT_DONE && page.relaid && page.edited == 0);
+}
+
 static void test_building(void) {
     const struct mearrasot_question q = mearrasot_screen(240);
     uint64_t answer;
@@ -324,6 +339,7 @@ static void test_faults(void) {
 int main(void) {
     test_fields();
     test_coarse();
+    test_profile();
     test_building();
     test_setters();
     test_many_edits();

@@ -260,6 +260,47 @@ static void test_coarse(void) {
     CHECK(MEARRASOT_PIXELS_BYTES(NODES) == sizeof pixels - sizeof pixels[0]);
 }
 
+/* Asked as profile: 11 after 4 and before 5, at the lowest node, or n for the question; else the plain call. */
+static void test_profile(void) {
+    const struct mearrasot_question plain = mearrasot_screen(100), q = mearrasot_as_profile(plain);
+    struct mearrasot_question half = q;
+    struct mearrasot_page p = page_in(&now);
+    float size[2];
+    lay();
+    REFUSED(MEARRASOT_OUTSIDE, 5, q); /* half the width */
+    IS(mearrasot_in_profile_page(&p, plain), MEARRASOT_OUTSIDE, 5);
+    numbers[MEARRASOT_NUMBER(NODES, 2, MEARRASOT_F_LEAF_HEIGHT)] = 7.5f;
+    REFUSED(MEARRASOT_OUTSIDE, 2, q);
+    numbers[MEARRASOT_NUMBER(NODES, 4, MEARRASOT_F_LEAF_HEIGHT)] = -1;
+    IS(mearrasot_in_profile_page(&p, plain), MEARRASOT_BAD_NUMBER, 4);
+    REFUSED(MEARRASOT_BAD_NUMBER, 4, q);
+    p.records = 0;
+    IS(mearrasot_layout_page(&p, q), MEARRASOT_OUTSIDE, 5);
+    mearrasot_set(words, numbers, NODES, 5, MEARRASOT_F_WIDTH, MEARRASOT_PIXELS, 50);
+    IS(mearrasot_layout_page(&p, q), MEARRASOT_ROOM, 0);
+    p.records = RECORDS;
+    half.known_width = 100.5f;
+    REFUSED(MEARRASOT_OUTSIDE, NODES, half);
+    mearrasot_set(words, numbers, NODES, 5, MEARRASOT_F_WIDTH, MEARRASOT_PIXELS, 50);
+    half.how &= ~MEARRASOT_KNOWN_WIDTH; /* it does not count */
+    IS(mearrasot_in_profile_page(&p, half), MEARRASOT_DONE, 0);
+    IS(mearrasot_in_profile_page(&p, q), MEARRASOT_DONE, 0);
+    IS(mearrasot_in_profile(words, 24, numbers, 167, 100, 0, 100, 100, q.how), MEARRASOT_LENGTHS, 0);
+    CHECK(untouched());
+
+    IS(mearrasot_layout_page(&p, plain), MEARRASOT_DONE, 1);
+    before = now;
+    memset(&now, 0, sizeof now);
+    IS(mearrasot_relayout_page(&p, NULL, 0, q), MEARRASOT_NOT_LAID, 0);
+    IS(mearrasot_layout_page(&p, q), MEARRASOT_DONE, 1);
+    CHECK(untouched());
+    IS(mearrasot_relayout_page(&p, NULL, 0, q), MEARRASOT_DONE, 1);
+    CHECK(untouched());
+    IS(mearrasot_size_page(&p, size, q), MEARRASOT_DONE, 0);
+    CHECK(size[0] == now.rows[MEARRASOT_R_WIDTH] && size[1] == now.rows[MEARRASOT_R_HEIGHT]);
+    mend();
+}
+
 /* The tables in flash are those that the helpers make. */
 static void test_flash(void) {
     struct mearrasot_page p = page_in(&now);
@@ -332,6 +373,7 @@ int main(void) {
     test_too_large();
     test_index();
     test_coarse();
+    test_profile();
     lay();
     test_flash();
     test_cut();

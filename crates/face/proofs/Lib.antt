@@ -1,2 +1,3 @@
 -- What the proofs of the calls share.
 mod Calls
+mod AsProfile

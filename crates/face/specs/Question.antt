@@ -31,6 +31,10 @@ plainQuestion width height parent available how =
       collapseEnd = flagAt how 5;
     }
 
--- bit 6: width only. Bits from 8 on mean nothing.
+-- bit 6: width only
 unfoldable pub axisOf : ℕ → RequestedAxis
 axisOf how = cond (flagAt how 6) Horizontal Both
+
+-- bit 8: asked as profile. Bits from 9 on mean nothing.
+unfoldable pub asProfile : ℕ → Bool
+asProfile how = flagAt how 8

@@ -5,15 +5,19 @@ ghost use Rattle.steps.specs.Noes.{paper};
 ghost use Rattle.steps.specs.Question.{rootInput};
 ghost use Rattle.steps.specs.Row.{bit};
 ghost use Rattle.steps.specs.Results.{layoutResult, relayoutResult, sizeResult, sizePaper};
-ghost use Rattle.face.specs.Question.{given, availableOf, plainQuestion, axisOf};
-ghost use Rattle.face.specs.Answered.{Halves, Answered, Sized, IndexAnswered, Scrolled, CoarseAnswered};
+ghost use Rattle.face.specs.Question.{given, availableOf, plainQuestion, axisOf, asProfile};
+ghost use Rattle.face.specs.Answered.{Halves, IndexAnswered, Scrolled, CoarseAnswered};
+ghost use Rattle.face.specs.AsProfile.{AnsweredAs, SizedAs, SizedProfile};
 ghost use Rattle.index.specs.Index.{indexPaper, indexResult};
 ghost use Rattle.scroll.specs.Scroll.{scrollAnswer};
 ghost use Rattle.coarse.specs.Coarse.{coarsePaper, coarseResult};
 ghost use Rattle.order.specs.Class.{keepsOrder};
+ghost use Rattle.profiled.specs.Profiled.{profilePaper, yesOrNo, profiledLayoutResult, profiledRelayoutResult, profiledSizeResult};
 use coarse::CoarseAnswer;
 use index::IndexAnswer;
 use length::AvailableSpace;
+use profiled::ProfileAnswer;
+use profiled::ProfileSize;
 use scroll::ScrollAnswer;
 use steps::Answer;
 use steps::Question;
@@ -78,6 +82,13 @@ fn axis(how: u32) -> RequestedAxis
     }
 }
 
+// Asked as profile.
+fn as_profile(how: u32) -> bool
+    ensures { λ r. ⌜ r ≡ asProfile how ⌝ }
+{
+    flag(how, 8)
+}
+
 // A number and a place as the two halves of a word.
 fn halves(number: u64, place: u32) -> u64
     requires { ⌜ number ≤ 12 ⌝ }
@@ -91,6 +102,16 @@ fn packed(a: Answer) -> u64
     ensures { λ r. ⌜ Halves (paper a) r ⌝ }
 {
     halves(number_of(a) as u64, place_of(a))
+}
+
+// An answer of a call asked as profile.
+fn packed_profile(a: ProfileAnswer) -> u64
+    ensures { λ r. ⌜ Halves (profilePaper a) r ⌝ }
+{
+    match a {
+        ProfileAnswer::Plain(no) => packed(no),
+        ProfileAnswer::Outside(k) => halves(11, k),
+    }
 }
 
 // A fresh layout of a page.
@@ -108,9 +129,13 @@ pub extern "C" fn mearrasot_layout(
     available: f32,
     how: u32,
 ) -> u64
-    ensures { λ r. ⌜ Answered (layoutResult (now (words .entry)) (now (numbers .entry)) (now (rows .entry)) (now (marks .entry)) (now (pairs .entry)) (now (triples .entry)) (rootInput (plainQuestion width height parent available how))) r (now (rows .exit)) (now (marks .exit)) (now (pairs .exit)) (now (triples .exit)) ⌝ }
+    ensures { λ r. ⌜ AnsweredAs (asProfile how) (layoutResult (now (words .entry)) (now (numbers .entry)) (now (rows .entry)) (now (marks .entry)) (now (pairs .entry)) (now (triples .entry)) (rootInput (plainQuestion width height parent available how))) (profiledLayoutResult (now (words .entry)) (now (numbers .entry)) (now (rows .entry)) (now (marks .entry)) (now (pairs .entry)) (now (triples .entry)) (rootInput (plainQuestion width height parent available how))) r (now (rows .exit)) (now (marks .exit)) (now (pairs .exit)) (now (triples .exit)) ⌝ }
 {
     let q = question(width, height, parent, available, how);
+    if as_profile(how) {
+        let a = profiled::layout_profiled(words, numbers, rows, marks, pairs, triples, q);
+        return packed_profile(a);
+    }
     let a = layout::layout(words, numbers, rows, marks, pairs, triples, q);
     packed(a)
 }
@@ -131,11 +156,38 @@ pub extern "C" fn mearrasot_relayout(
     available: f32,
     how: u32,
 ) -> u64
-    ensures { λ r. ⌜ Answered (relayoutResult (now (words .entry)) (now (numbers .entry)) (now (rows .entry)) (now (marks .entry)) (now (pairs .entry)) (now (triples .entry)) (now (edits .entry)) (rootInput (plainQuestion width height parent available how))) r (now (rows .exit)) (now (marks .exit)) (now (pairs .exit)) (now (triples .exit)) ⌝ }
+    ensures { λ r. ⌜ AnsweredAs (asProfile how) (relayoutResult (now (words .entry)) (now (numbers .entry)) (now (rows .entry)) (now (marks .entry)) (now (pairs .entry)) (now (triples .entry)) (now (edits .entry)) (rootInput (plainQuestion width height parent available how))) (profiledRelayoutResult (now (words .entry)) (now (numbers .entry)) (now (rows .entry)) (now (marks .entry)) (now (pairs .entry)) (now (triples .entry)) (now (edits .entry)) (rootInput (plainQuestion width height parent available how))) r (now (rows .exit)) (now (marks .exit)) (now (pairs .exit)) (now (triples .exit)) ⌝ }
 {
     let q = question(width, height, parent, available, how);
+    if as_profile(how) {
+        let a = profiled::relayout_profiled(words, numbers, rows, marks, pairs, triples, edits, q);
+        return packed_profile(a);
+    }
     let a = layout::relayout(words, numbers, rows, marks, pairs, triples, edits, q);
     packed(a)
+}
+
+// The size of a page asked as profile, written to `out`.
+fn size_as_profile(
+    words: &[u32],
+    numbers: &[f32],
+    out: &mut [f32; 2],
+    q: Question,
+    axis: RequestedAxis,
+) -> u64
+    ensures { λ r. ⌜ SizedProfile (profiledSizeResult (now (words .entry)) (now (numbers .entry)) (rootInput q) axis) r (now (out .exit)) ⌝ }
+{
+    let a = profiled::size_profiled(words, numbers, q, axis);
+    match a {
+        ProfileSize::Sized(s) => {
+            *out = [s.width, s.height];
+            halves(0, 0)
+        }
+        ProfileSize::Refused(no) => {
+            *out = [0.0, 0.0];
+            packed_profile(no)
+        }
+    }
 }
 
 // The size of a page, written to `size`: 0x0 if it is refused.
@@ -150,9 +202,12 @@ pub extern "C" fn mearrasot_size(
     available: f32,
     how: u32,
 ) -> u64
-    ensures { λ r. ⌜ Sized (sizeResult (now (words .entry)) (now (numbers .entry)) (rootInput (plainQuestion width height parent available how)) (axisOf how)) r (now (size .exit)) ⌝ }
+    ensures { λ r. ⌜ SizedAs (asProfile how) (sizeResult (now (words .entry)) (now (numbers .entry)) (rootInput (plainQuestion width height parent available how)) (axisOf how)) (profiledSizeResult (now (words .entry)) (now (numbers .entry)) (rootInput (plainQuestion width height parent available how)) (axisOf how)) r (now (size .exit)) ⌝ }
 {
     let q = question(width, height, parent, available, how);
+    if as_profile(how) {
+        return size_as_profile(words, numbers, size, q, axis(how));
+    }
     let a = measure::size_question(words, numbers, q, axis(how));
     match a {
         SizeAnswer::Sized(s) => {
@@ -245,4 +300,22 @@ pub extern "C" fn mearrasot_keeps_order(words: &[u32], numbers: &[f32]) -> u64
 {
     let yes = keeps::keeps_order(words, numbers);
     if yes { 1 } else { 0 }
+}
+
+// Whether a page and a question are of the profile: 0 for yes, else the number and place of the no.
+#[no_mangle]
+pub extern "C" fn mearrasot_in_profile(
+    words: &[u32],
+    numbers: &[f32],
+    width: f32,
+    height: f32,
+    parent: f32,
+    available: f32,
+    how: u32,
+) -> u64
+    ensures { λ r. ⌜ Halves (profilePaper (yesOrNo (now (words .entry)) (now (numbers .entry)) (rootInput (plainQuestion width height parent available how)))) r ⌝ }
+{
+    let q = question(width, height, parent, available, how);
+    let a = profiled::in_profile(words, numbers, q);
+    packed_profile(a)
 }

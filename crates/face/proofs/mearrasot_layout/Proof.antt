@@ -1,7 +1,9 @@
-use mathlib.Core.Path.{ap}
-use Rattle.steps.specs.Results.{layoutResult}
-use Rattle.steps.specs.Question.{rootInput}
+use Rattle.face.proofs.AsProfile.{profiled}
 use Rattle.face.proofs.Calls.{answered}
+use Rattle.profiled.specs.Profiled.{profiledLayoutResult}
+use Rattle.steps.specs.Question.{rootInput}
+use Rattle.steps.specs.Results.{layoutResult}
+use mathlib.Core.Path.{sym, ap, _∙_}
 use borrow.Author.Needs.{needs}
 use Rattle.face.proofs.mearrasot_layout.Statement.{statement}
 use Rattle.face.proofs.mearrasot_layout.Tie as tie
@@ -9,11 +11,14 @@ use Rattle.face.proofs.mearrasot_layout.Tie as tie
 question-requires : tie.Need-question-requires
 question-requires c κs = search needs
 
-layout-requires : tie.Need-layout-requires
-layout-requires c κs = search needs
+as-profile-requires : tie.Need-as-profile-requires
+as-profile-requires c κs = search needs
 
-packed-requires : tie.Need-packed-requires
-packed-requires c κs = search needs
+layout-profiled-requires : tie.Need-layout-profiled-requires
+layout-profiled-requires c κs = search needs
+
+packed-profile-requires : tie.Need-packed-profile-requires
+packed-profile-requires c κs = search needs
 
 same-length : tie.Need-same-length
 same-length c = search needs
@@ -28,17 +33,46 @@ same-length-4 : tie.Need-same-length-4
 same-length-4 c = search needs
 
 returns : tie.Need-returns
-returns c = let d = c .before .before .before .before .before .before .before .before .before in answered (ap (layoutResult _ _ _ _ _ _) (ap rootInput (d .before .before .before .before .before .question .ensures))) (d .layout .ensures) (c .packed .ensures)
+returns c = rw (sym (c .before .before .before .before .before .before .before .before .before .before .before .before .before .before .before .as-profile .ensures) ∙ c .before .before .before .before .before .before .before .before .before .before .before .before .before .before .if1 .taken) (profiled (ap (profiledLayoutResult _ _ _ _ _ _) (ap rootInput (c .before .before .before .before .before .before .before .before .before .before .before .before .before .before .before .before .question .ensures))) (c .before .before .before .before .before .before .before .before .before .layout-profiled .ensures) (c .packed-profile .ensures))
+
+layout-requires : tie.Need-layout-requires
+layout-requires c κs = search needs
+
+packed-requires : tie.Need-packed-requires
+packed-requires c κs = search needs
+
+same-length-5 : tie.Need-same-length-5
+same-length-5 c = search needs
+
+same-length-6 : tie.Need-same-length-6
+same-length-6 c = search needs
+
+same-length-7 : tie.Need-same-length-7
+same-length-7 c = search needs
+
+same-length-8 : tie.Need-same-length-8
+same-length-8 c = search needs
+
+returns-2 : tie.Need-returns-2
+returns-2 c = rw (sym (c .before .before .before .before .before .before .before .before .before .before .before .before .before .before .before .as-profile .ensures) ∙ c .before .before .before .before .before .before .before .before .before .before .before .before .before .before .if1 .left) (answered (ap (layoutResult _ _ _ _ _ _) (ap rootInput (c .before .before .before .before .before .before .before .before .before .before .before .before .before .before .before .before .question .ensures))) (c .before .before .before .before .before .before .before .before .before .layout .ensures) (c .packed .ensures))
 
 pub mearrasot-layout-spec : {M : Type 1} → statement M
 mearrasot-layout-spec =
     tie.close
     (tie.spec
     question-requires
-    layout-requires
-    packed-requires
+    as-profile-requires
+    layout-profiled-requires
+    packed-profile-requires
     same-length
     same-length-2
     same-length-3
     same-length-4
-    returns)
+    returns
+    layout-requires
+    packed-requires
+    same-length-5
+    same-length-6
+    same-length-7
+    same-length-8
+    returns-2)

@@ -1,0 +1,2 @@
+pub mod Relayout
+pub mod AtExit

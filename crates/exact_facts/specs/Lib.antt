@@ -1,0 +1,2 @@
+pub mod Bill
+pub mod Reasons

@@ -1,0 +1,11 @@
+pub mod Numbers
+pub mod Styles
+pub mod Boxes
+pub mod Widths
+pub mod Rows
+pub mod Stacks
+pub mod Heights
+pub mod Layout
+pub mod Candidates
+pub mod Sizes
+pub mod Results

@@ -1,0 +1,2 @@
+// The engine over whole numbers: definitions, no code.
+pub const REQUEST: u32 = 12;

@@ -1,0 +1,127 @@
+-- The tests before the plain call: 1 to 4 by those of a layout, and what they tell; and from the tests to what the calls promise.
+use mathlib.Core.Path.{_≡_, refl, sym, ap, _∙_, subst}
+use mathlib.Core.Bool.{Bool, true, false, cond, _||_}
+use mathlib.Core.List.{List, []}
+use Prim.Native.Nat.{ℕ, _≤_}
+use lib.Dec.{ltb}
+use lib.Ieee.{Float}
+use Rattle.limits.specs.Bools.{or-left}
+use Rattle.steps.specs.Scan.{lowest}
+use Rattle.steps.specs.Page.{nodesIn, pageOf}
+use Rattle.steps.specs.Candidates.{needed}
+use Rattle.steps.specs.Noes.{paper, refuseIf, andThen, atFault, badTables, badRows, badTree, badStyle, badNumbers, badQuestion, no2, no3, no4, no5, recordsIn, pageTested, layoutTested, sizeTested}
+use Rattle.steps.specs.Results.{Reply, layoutResult, relayoutResult, sizeResult}
+use Rattle.steps.specs.declared.LayoutInput.{LayoutInput}
+use Rattle.steps.specs.declared.RequestedAxis.{RequestedAxis}
+use Rattle.steps.specs.declared.Answer.{Answer}
+use Rattle.steps.specs.declared.Answer.the-variants.{Done, Lengths, Tree, Codes, Numbers, Room}
+use Rattle.steps.specs.declared.SizeAnswer.{SizeAnswer}
+use Rattle.steps.specs.declared.Tested.{Tested}
+use Rattle.steps.specs.declared.Tested.the-variants.{Pass, Refuse}
+use Rattle.steps.specs.declared.Found.{Found}
+use Rattle.steps.specs.declared.Found.the-variants as found
+use Rattle.steps.specs.declared.Spot.{Spot}
+use Rattle.steps.specs.declared.Spot.the-variants.{Nowhere, At}
+use Rattle.tables.proofs.Passing.{sized, then-pass-1, if-pass}
+use Rattle.layout.specs.Public.{Replied}
+use Rattle.profile.specs.Profile.{profileSpot}
+use Rattle.profiled.specs.Profiled.{profilePaper, profileSizePaper, earlyTested, upTo4, profileTested, ProfileReply, profileReply, profiledLayoutResult, profiledRelayoutResult, ofSize, sizeOr, profiledSizeResult, yesBy, yesOrNo}
+use Rattle.profiled.specs.Public.{ProfileReplied, ProfileSized}
+use Rattle.profiled.specs.declared.ProfileAnswer.{ProfileAnswer}
+use Rattle.profiled.specs.declared.ProfileAnswer.the-variants.{Plain, Outside}
+use Rattle.profiled.specs.declared.ProfileSize.{ProfileSize}
+use Rattle.profiled.specs.declared.ProfileSize.the-variants as size
+use Rattle.profiled.specs.declared.ProfileTested.{ProfileTested}
+use Rattle.profiled.specs.declared.ProfileTested.the-variants as test
+
+-- ---- 2 to 4 are early
+page-early : (f g h : Found) (d : Bool) (n : ℕ) → let t = andThen (atFault (λ i. Tree (record { 0 = i })) f) (andThen (atFault (λ i. Codes (record { 0 = i })) g) (andThen (atFault Numbers h) (refuseIf d (Numbers n)))) in upTo4 t ≡ t
+unfolding upTo4 andThen atFault paper
+page-early (found.At i) g h d n = refl
+page-early found.Nowhere (found.At i) h d n = refl
+page-early found.Nowhere found.Nowhere (found.At i) d n = refl
+page-early found.Nowhere found.Nowhere found.Nowhere true n = refl
+page-early found.Nowhere found.Nowhere found.Nowhere false n = refl
+
+pub page-stays : (ws : List ℕ) (xs : List Float) (q : LayoutInput) → upTo4 (pageTested ws xs q) ≡ pageTested ws xs q
+unfolding pageTested no2 no3 no4
+page-stays ws xs q = page-early (lowest (badTree ws) (nodesIn ws)) (lowest (badStyle ws xs) (nodesIn ws)) (lowest (badNumbers ws xs) (nodesIn ws)) (badQuestion q) (nodesIn ws)
+
+-- 5 is not
+early-by : (b c : Bool) (p : Tested) → upTo4 p ≡ p → upTo4 (andThen (refuseIf b Lengths) (andThen p (refuseIf c Room))) ≡ andThen (refuseIf b Lengths) p
+unfolding upTo4 andThen paper
+early-by true c p e = refl
+early-by false true Pass e = refl
+early-by false false Pass e = refl
+early-by false c (Refuse a) e = e
+
+pub early-is : (ws : List ℕ) (xs rs : List Float) (ms cw : List ℕ) (cx : List Float) (q : LayoutInput) → upTo4 (layoutTested ws xs rs ms cw cx q) ≡ earlyTested ws xs rs ms q
+unfolding layoutTested earlyTested no5
+early-is ws xs rs ms cw cx q = early-by (badTables ws xs || badRows ws rs ms) (ltb (recordsIn cw cx) (needed (pageOf ws xs []))) (pageTested ws xs q) (page-stays ws xs q)
+
+-- ---- tests that pass have counted the nodes
+pub few-early : (ws : List ℕ) (xs rs : List Float) (ms : List ℕ) (q : LayoutInput) → earlyTested ws xs rs ms q ≡ Pass → nodesIn ws ≤ 1024
+unfolding earlyTested
+few-early ws xs rs ms q e = sized ws xs (or-left (badTables ws xs) _ (if-pass (badTables ws xs || badRows ws rs ms) Lengths (then-pass-1 (refuseIf (badTables ws xs || badRows ws rs ms) Lengths) _ e))) .few
+
+pub few-sized : (ws : List ℕ) (xs : List Float) (q : LayoutInput) → sizeTested ws xs q ≡ Pass → nodesIn ws ≤ 1024
+unfolding sizeTested
+few-sized ws xs q e = sized ws xs (if-pass (badTables ws xs) Lengths (then-pass-1 (refuseIf (badTables ws xs) Lengths) _ e)) .few
+
+-- ---- one case of a test, of a number
+pub tested-so : {t : Tested} {s : Spot} {u : Tested} {v : Spot} → t ≡ u → s ≡ v → profileTested t s ≡ profileTested u v
+tested-so e f = rw (e, f)
+
+-- ---- replies
+pub refused : {t p : ProfileTested} (r : Reply) (rs : List Float) (ms cw : List ℕ) (cx : List Float) {a : ProfileAnswer} → p ≡ t → p ≡ test.Refuse a → ProfileReplied (profileReply t r rs ms cw cx) a rs ms cw cx
+unfolding profileReply
+refused r rs ms cw cx e f = rw (sym e ∙ f) (record { answer-is = refl; paper-is = refl; rows-are = refl; marks-are = refl; words-are = refl; numbers-are = refl })
+
+pub accepted : {t p : ProfileTested} (r : Reply) (rs : List Float) (ms cw : List ℕ) (cx : List Float) {a : Answer} {rs2 : List Float} {ms2 cw2 : List ℕ} {cx2 : List Float} → p ≡ t → p ≡ test.Pass → Replied r a rs2 ms2 cw2 cx2 → ProfileReplied (profileReply t r rs ms cw cx) (Plain a) rs2 ms2 cw2 cx2
+unfolding profileReply profilePaper
+accepted r rs ms cw cx e f s =
+    rw (sym e ∙ f) (record { answer-is = ap Plain (s .answer-is); paper-is = s .paper-is; rows-are = s .rows-are; marks-are = s .marks-are; words-are = s .words-are; numbers-are = s .numbers-are })
+
+module _ (ws : List ℕ) (xs rs : List Float) (ms cw : List ℕ) (cx : List Float) {q k : LayoutInput} {t : Tested} {p : ProfileTested} (e : k ≡ q) (f : t ≡ earlyTested ws xs rs ms k) (g : p ≡ profileTested t (profileSpot ws xs k)) where
+  due : p ≡ profileTested (earlyTested ws xs rs ms q) (profileSpot ws xs q)
+  due = g ∙ tested-so (f ∙ ap (earlyTested ws xs rs ms) e) (ap (profileSpot ws xs) e)
+
+  pub layout-refused : {a : ProfileAnswer} → p ≡ test.Refuse a → ProfileReplied (profiledLayoutResult ws xs rs ms cw cx q) a rs ms cw cx
+  unfolding profiledLayoutResult
+  layout-refused h = refused _ rs ms cw cx due h
+
+  pub layout-accepted : {a : Answer} {rs2 : List Float} {ms2 cw2 : List ℕ} {cx2 : List Float} → p ≡ test.Pass → Replied (layoutResult ws xs rs ms cw cx q) a rs2 ms2 cw2 cx2 → ProfileReplied (profiledLayoutResult ws xs rs ms cw cx q) (Plain a) rs2 ms2 cw2 cx2
+  unfolding profiledLayoutResult
+  layout-accepted h s = accepted _ rs ms cw cx due h s
+
+  pub relayout-refused : (es : List ℕ) {a : ProfileAnswer} → p ≡ test.Refuse a → ProfileReplied (profiledRelayoutResult ws xs rs ms cw cx es q) a rs ms cw cx
+  unfolding profiledRelayoutResult
+  relayout-refused es h = refused _ rs ms cw cx due h
+
+  pub relayout-accepted : (es : List ℕ) {a : Answer} {rs2 : List Float} {ms2 cw2 : List ℕ} {cx2 : List Float} → p ≡ test.Pass → Replied (relayoutResult ws xs rs ms cw cx es q) a rs2 ms2 cw2 cx2 → ProfileReplied (profiledRelayoutResult ws xs rs ms cw cx es q) (Plain a) rs2 ms2 cw2 cx2
+  unfolding profiledRelayoutResult
+  relayout-accepted es h s = accepted _ rs ms cw cx due h s
+
+-- ---- sizes and the yes or no
+module _ (ws : List ℕ) (xs : List Float) {q k : LayoutInput} {t : Tested} {p : ProfileTested} (e : k ≡ q) (f : t ≡ sizeTested ws xs k) (g : p ≡ profileTested t (profileSpot ws xs k)) where
+  size-due : profileTested (sizeTested ws xs q) (profileSpot ws xs q) ≡ p
+  size-due = sym (g ∙ tested-so (f ∙ ap (sizeTested ws xs) e) (ap (profileSpot ws xs) e))
+
+  pub said-no : {a : ProfileAnswer} → p ≡ test.Refuse a → a ≡ yesOrNo ws xs q
+  unfolding yesOrNo yesBy
+  said-no h = rw (size-due ∙ h)
+
+  pub said-yes : p ≡ test.Pass → Plain (Done 0) ≡ yesOrNo ws xs q
+  unfolding yesOrNo yesBy
+  said-yes h = rw (size-due ∙ h)
+
+  so-sized : {r : ProfileSize} (axis : RequestedAxis) → r ≡ profiledSizeResult ws xs q axis → ProfileSized (profiledSizeResult ws xs q axis) r
+  so-sized axis h = record { answer-is = h; paper-is = ap profileSizePaper h }
+
+  pub size-refused : (axis : RequestedAxis) {a : ProfileAnswer} → p ≡ test.Refuse a → ProfileSized (profiledSizeResult ws xs q axis) (size.Refused a)
+  unfolding profiledSizeResult sizeOr
+  size-refused axis h = so-sized axis (rw (size-due ∙ h))
+
+  pub size-given : (axis : RequestedAxis) {r : ProfileSize} {s : SizeAnswer} → p ≡ test.Pass → s ≡ sizeResult ws xs q axis → r ≡ ofSize s → ProfileSized (profiledSizeResult ws xs q axis) r
+  unfolding profiledSizeResult sizeOr
+  size-given axis h i j = so-sized axis (rw (size-due ∙ h, ← i) j)

@@ -1,0 +1,18 @@
+use borrow.Author.Needs.{needs}
+use borrow.Author.Tests.{eq-eqb, ne-eqb}
+use mathlib.Core.Path.{ap}
+use mathlib.Core.Bool.{not}
+use Rattle.profiles.proofs.one_auto.Statement.{statement}
+use Rattle.profiles.proofs.one_auto.Tie as tie
+
+returns : tie.Need-returns
+returns c = rw (eq-eqb _ 0 (c .if1 .taken))
+
+two-autos-requires : tie.Need-two-autos-requires
+two-autos-requires c κs = search needs
+
+returns-2 : tie.Need-returns-2
+returns-2 c = rw (ne-eqb _ 0 (c .before .if1 .left)) (ap not (c .two-autos .ensures))
+
+pub one-auto-spec : {M : Type 1} → statement M
+one-auto-spec = tie.close (tie.spec returns two-autos-requires returns-2)

@@ -1,0 +1,6 @@
+pub mod Whole
+pub mod Compare
+pub mod More
+pub mod Test
+pub mod Coarse
+pub mod Range
