@@ -5,7 +5,7 @@ ghost use mathlib.Core.Path.{_≡_};
 ghost use Prim.Native.Nat.{_+_, _*_, _^_, _<_, _≤_};
 ghost use lib.ListN.{length};
 ghost use Rattle.style.specs.Codes.{codeAt, flagAt, clearFrom, kindOf, positionOf, overflowOf, distributionAt, alignOf, distributed, alignAt, overflowXY, unitOf, lengthOf, ratioOf, baselineOf};
-ghost use Rattle.style.specs.Flow.{positioned, flowBy, flowAt, flowOf, isLeaf};
+ghost use Rattle.style.specs.Flow.{positioned, flowBy, flowAt, isLeaf};
 ghost use Rattle.style.specs.Style.{wordAt, planeOf, numberPlace, numberAt, measureAt, styleAt};
 ghost use Rattle.style.specs.Fields.{sizeIn, rectIn};
 use crate::decode::align_from;
@@ -338,14 +338,6 @@ pub fn flow_at(w: u32) -> Flow
     ensures { λ r. ⌜ r ≡ flowAt w ⌝ }
 {
     flow_by(kind_of(w), position_of(w))
-}
-
-pub fn flow_of(s: Style) -> Flow
-    ensures { λ r. ⌜ r ≡ flowOf s ⌝ }
-{
-    let k = s.kind;
-    let p = s.position;
-    flow_by(k, p)
 }
 
 pub fn is_leaf(k: Kind) -> bool
