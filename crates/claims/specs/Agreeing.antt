@@ -30,7 +30,8 @@ use Rattle.laws.specs.Tables.{SameShape, Sound, AgreeAt, belowAt}
 use Rattle.laws.specs.Answers.{relayout-layout}
 use Rattle.laws.specs.Blind.{tables-same}
 use Rattle.laws.specs.Parsed.{onLabel, parse-map, parse-same}
-use Rattle.face.specs.Answered.{Answered, one-word}
+use Rattle.asked.specs.Halves.{one-word}
+use Rattle.face.specs.Answered.{Answered}
 use Rattle.records.specs.Results.{RecordsReply, relayoutRecordsResult, withRecords, RecordsReplied}
 use Rattle.records.specs.declared.Record.{Record}
 use Rattle.records.proofs.EnoughOrFew.{Scarce, room-due, relayout-enough, relayout-few}

@@ -25,7 +25,8 @@ use Rattle.laws.specs.Tables.{SameShape, Named, Calls, laid-out, laid-again}
 use Rattle.laws.specs.Answers.{relayout-layout}
 use Rattle.laws.specs.Public.{tables-fresh, calls-fresh}
 use Rattle.layout.specs.Public.{Replied}
-use Rattle.face.specs.Answered.{Halves, Answered, one-word}
+use Rattle.asked.specs.Halves.{Halves, one-word}
+use Rattle.face.specs.Answered.{Answered}
 use Rattle.records.specs.Results.{RecordsReply, layoutRecordsResult, relayoutRecordsResult, withRecords, RecordsReplied}
 use Rattle.records.specs.declared.Record.{Record}
 use Rattle.records.proofs.EnoughOrFew.{Scarce, layout-as-plain, relayout-as-plain, layout-enough, relayout-enough, layout-few, relayout-few}

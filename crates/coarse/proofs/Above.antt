@@ -20,9 +20,10 @@ use Rattle.steps.specs.Page.{nodesIn}
 use Rattle.steps.specs.Scan.{some, howMany}
 use Rattle.steps.specs.Noes.{endAt, holds, badTree}
 use Rattle.tables.specs.Refusals.{Sound}
-use Rattle.tables.proofs.Fronts.{holds-yes, holds-no, holds-true, nested}
+use Rattle.shape.proofs.Fronts.{holds-yes, holds-no, holds-true, nested}
 use Rattle.edges.specs.Edges.{rowNumber, outward, edgeBy}
-use Rattle.coarse.specs.Panel.{spanOf, farNode, boxOf}
+use Rattle.coarse.specs.Panel.{spanOf, farNode}
+use Rattle.coarse.specs.Spans.{seenOf}
 use Rattle.coarse.specs.Above.{chosen, above, before, trimmed, stacked, climb, climbed}
 
 -- ---- the clauses
@@ -238,10 +239,6 @@ module _ (ws : List ℕ) (n : ℕ) (all : nodesIn ws ≡ n) (sound : Sound (badT
     edge-too : (f : ℕ) → climbed rs (stacked up r) f i ≡ edgeBy ws rs f i
     edge-too f = ap (λ (l : List ℕ). climbed rs l f i) are-above ∙ climb-is ws rs f i
 
-    pub far-too : (ms : List ℕ) → farNode (climbed rs (stacked up r)) rs ms i ≡ farNode (edgeBy ws rs) rs ms i
-    unfolding farNode spanOf
-    far-too ms = rw (edge-too 0, edge-too 1)
-
-    pub box-too : (ms : List ℕ) → boxOf (climbed rs (stacked up r)) rs ms i ≡ boxOf (edgeBy ws rs) rs ms i
-    unfolding boxOf spanOf
-    box-too ms = rw (edge-too 0, edge-too 1)
+    pub seen-too : (ms : List ℕ) → seenOf (climbed rs (stacked up r)) rs ms i ≡ seenOf (edgeBy ws rs) rs ms i
+    unfolding seenOf farNode spanOf
+    seen-too ms = rw (edge-too 0, edge-too 1)

@@ -5,7 +5,7 @@ use Prim.Native.Nat.{ℕ, _*_, _≤_}
 use lib.IntN.{ℤ}
 use lib.ListN.{length}
 use lib.Ieee.{Float}
-use borrow.Author.Tests.{eqb-true, not-false}
+use native.Mathlib.Omega.{arith}
 use Rattle.limits.specs.Bools.{or-left, or-right}
 use Rattle.tree.specs.declared.NodeId.{NodeId}
 use Rattle.steps.specs.Page.{nodesIn}
@@ -20,7 +20,11 @@ use Rattle.coarse.specs.Panel.{farNode, boxOf, boxesOf}
 use Rattle.coarse.specs.Coarse.{badOut, coarseMisfit, farAt, coarseAnswer, byAnswer, coarseResult, Coarsened}
 use Rattle.coarse.specs.declared.CoarseAnswer.the-variants.{Shown, Refused, TooFar}
 use Rattle.coarse.proofs.Exact.{coarse-exactly}
+use Rattle.coarse.specs.Spans.{seenOf}
+use Rattle.coarse.proofs.Filling.{boxes-same}
 use Rattle.coarse.proofs.OfTree.{sound-too, boxes-are}
+use Rattle.coarse.proofs.Spans.{box-seen}
+use Rattle.coarse.proofs.Testing.{long-out}
 
 module _ (ws : List ℕ) (rs : List Float) (ms : List ℕ) (lent : List ℤ) where
   -- what an accepted call knows
@@ -32,13 +36,13 @@ module _ (ws : List ℕ) (rs : List Float) (ms : List ℕ) (lent : List ℤ) whe
     pub near : Sound (farAt ws rs ms) (nodesIn ws)
 
   pub accepted : coarseAnswer ws rs ms (length lent) ≡ Shown → Accepted
-  unfolding coarseMisfit badOut
+  unfolding coarseMisfit
   accepted e =
       let d = coarse-exactly ws rs ms (length lent) Shown .only e in
       let m = d .0 .lengths in
       let w = or-left (badWords ws) (badRows ws rs ms) (or-right (badOut (nodesIn ws) (length lent)) _ m) in
       record {
-        long = eqb-true _ _ (not-false _ (or-left (badOut (nodesIn ws) (length lent)) _ m));
+        long = long-out (nodesIn ws) (length lent) (or-left (badOut (nodesIn ws) (length lent)) _ m);
         few = worded ws w .few;
         good = good-words ws w (d .0 .tree);
         tree = d .0 .tree;
@@ -49,9 +53,13 @@ module _ (ws : List ℕ) (rs : List Float) (ms : List ℕ) (lent : List ℤ) whe
   pub none-far : coarseAnswer ws rs ms (length lent) ≡ Shown → Sound (farNode (edgeBy ws rs) rs ms) (nodesIn ws)
   none-far e = let a = accepted e in sound-too ws rs ms (a .good) (a .near)
 
-  pub shown : coarseAnswer ws rs ms (length lent) ≡ Shown → (out : List ℤ) → out ≡ boxesOf (boxOf (edgeBy ws rs) rs ms) 0 (nodesIn ws) → Coarsened (coarseResult ws rs ms lent) Shown out
+  -- and so the boxes that the walk puts are the panel's
+  pub shown : coarseAnswer ws rs ms (length lent) ≡ Shown → (out : List ℤ) → out ≡ boxesOf (λ i. seenOf (edgeBy ws rs) rs ms i .place) 0 (nodesIn ws) → Coarsened (coarseResult ws rs ms lent) Shown out
   unfolding coarseResult byAnswer
-  shown e out q = rw e (record { answer-is = refl; out-is = q ∙ boxes-are ws rs ms (accepted e .good) })
+  shown e out q =
+      let near = none-far e in
+      let same = boxes-same (λ i. seenOf (edgeBy ws rs) rs ms i .place) (boxOf (edgeBy ws rs) rs ms) 0 (nodesIn ws) (λ i a b. box-seen (edgeBy ws rs) rs ms i (near i (omega arith))) in
+      rw e (record { answer-is = refl; out-is = q ∙ same ∙ boxes-are ws rs ms (accepted e .good) })
 
   pub refused : (a : Answer) → coarseAnswer ws rs ms (length lent) ≡ Refused a → Coarsened (coarseResult ws rs ms lent) (Refused a) lent
   unfolding coarseResult byAnswer

@@ -2,8 +2,9 @@
 use mathlib.Core.Path.{_≡_, sym, ap, _∙_}
 use mathlib.Core.Bool.{true, false, _||_}
 use mathlib.Core.List.{List}
-use Prim.Native.Nat.{ℕ, _≤_}
+use Prim.Native.Nat.{ℕ, _*_, _≤_}
 use lib.Ieee.{Float}
+use borrow.Author.Tests.{eqb-true, not-false}
 use Rattle.limits.specs.Bools.{or-left}
 use Rattle.steps.specs.Page.{nodesIn}
 use Rattle.steps.specs.Scan.{lowest}
@@ -22,6 +23,10 @@ use Rattle.coarse.specs.Panel.{farNode}
 use Rattle.coarse.specs.Coarse.{badOut, coarseMisfit, byEdge, farAt, afterTests, coarseAnswer}
 use Rattle.coarse.specs.declared.CoarseAnswer.the-variants.{Refused}
 use Rattle.coarse.proofs.OfTree.{lowest-is}
+
+pub long-out : (n out : ℕ) → badOut n out ≡ false → out ≡ 4 * n
+unfolding badOut
+long-out n out e = eqb-true out (4 * n) (not-false _ e)
 
 module _ (ws : List ℕ) (rs : List Float) (ms : List ℕ) where
   -- what rows that pass 1, 2, 3 and 7 say of the words

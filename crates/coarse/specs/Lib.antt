@@ -1,4 +1,5 @@
 pub mod Panel
+pub mod Spans
 pub mod Above
 pub mod Coarse
 pub mod Due

@@ -1,14 +1,14 @@
 // The coarse panel: each laid node as a box of whole pixels.
 ghost use mathlib.Core.Path.{_≡_};
-ghost use mathlib.Core.Bool.{true, false};
+ghost use mathlib.Core.Bool.{cond, not, _&&_, _||_};
 ghost use Prim.Native.Nat.{_+_, _*_, _<_, _≤_};
-ghost use lib.ListN.{length, set};
+ghost use lib.ListN.{length};
 ghost use Rattle.steps.specs.Page.{nodesIn};
-ghost use Rattle.steps.specs.Scan.{lowest};
 ghost use Rattle.steps.specs.Noes.{holds, badTree};
 ghost use Rattle.tables.specs.Refusals.{Sound};
 ghost use Rattle.edges.specs.Edges.{edgeBy};
-ghost use Rattle.coarse.specs.Panel.{laidAt, spanOf, tooFar, farNode, onPixels, boxOf, boxesOf};
+ghost use Rattle.coarse.specs.Panel.{laidAt, spanOf, tooFar};
+ghost use Rattle.coarse.specs.Spans.{pixelSpan, boxBy, seenBy, seenOf, boxPut, Walked};
 ghost use Rattle.coarse.specs.Above.{stacked, trimmed, climbed};
 ghost use Rattle.coarse.specs.Coarse.{badOut, coarseAnswer, coarseResult, Coarsened};
 use edges::row_number;
@@ -36,6 +36,19 @@ pub struct PixelBox {
     pub y: i32,
     pub width: i32,
     pub height: i32,
+}
+
+// A node along one axis in whole pixels; zeros where an edge is too large.
+pub struct PixelSpan {
+    pub far: bool,
+    pub near: i32,
+    pub size: i32,
+}
+
+// A node: whether 12 is due of it, and its box.
+pub struct Seen {
+    pub far: bool,
+    pub place: PixelBox,
 }
 
 // Bit 0 of row i.
@@ -104,75 +117,77 @@ fn too_far(s: Line) -> bool
     limits::too_large(s.end)
 }
 
-// 12, of node i.
-fn far_node(rows: &[f32], marks: &[u32], up: &[u32; 32], d: usize, i: usize) -> bool
-    requires { ⌜ (d ≤ 32) × (i ≤ 1024) ⌝ }
-    ensures { λ r. ⌜ r ≡ farNode (climbed (now (rows .entry)) (stacked (now (up .entry)) d)) (now (rows .entry)) (now (marks .entry)) i ⌝ }
+// Node i along axis f, tested and rounded at once: one body for both axes and both walks.
+fn pixel_span(rows: &[f32], up: &[u32; 32], d: usize, f: usize, i: usize) -> PixelSpan
+    requires { ⌜ (d ≤ 32) × (f < 2) ⌝ }
+    ensures { λ r. ⌜ r ≡ pixelSpan (spanOf (climbed (now (rows .entry)) (stacked (now (up .entry)) d)) (now (rows .entry)) f i) ⌝ }
 {
-    if !is_laid(marks, i) {
-        return false;
-    }
-    if too_far(span(rows, up, d, 0, i)) {
-        return true;
-    }
-    too_far(span(rows, up, d, 1, i))
-}
-
-// 12: the lowest of n nodes.
-fn first_far(words: &[u32], rows: &[f32], marks: &[u32], n: usize) -> Found
-    requires few { ⌜ n ≤ 1024 ⌝ }
-    requires tree { ⌜ (nodesIn (now words) ≡ n) × Sound (badTree (now words)) n ⌝ }
-    ensures { λ r. ⌜ r ≡ lowest (farNode (edgeBy (now (words .entry)) (now (rows .entry))) (now (rows .entry)) (now (marks .entry))) n ⌝ }
-{
-    let mut up = [0u32; 32];
-    let mut d = 0usize;
-    let mut i = 0usize;
-    while i < n {
-        d = still_above(words, &up, d, i);
-        if far_node(rows, marks, &up, d, i) {
-            return Found::At(NodeId(i as u32));
-        }
-        up[d] = i as u32;
-        d += 1;
-        i += 1;
-    }
-    Found::Nowhere
-}
-
-// The box between these edges.
-fn on_pixels(across: Line, down: Line) -> PixelBox
-    requires { ⌜ (tooFar across ≡ false) × (tooFar down ≡ false) ⌝ }
-    ensures { λ r. ⌜ r ≡ onPixels across down ⌝ }
-{
-    PixelBox {
-        x: whole_pixel(across.start),
-        y: whole_pixel(down.start),
-        width: pixels_between(across.start, across.end),
-        height: pixels_between(down.start, down.end),
-    }
-}
-
-// The box of node i, zeros if it is not laid.
-fn box_of(rows: &[f32], marks: &[u32], up: &[u32; 32], d: usize, i: usize) -> PixelBox
-    requires few { ⌜ (d ≤ 32) × (i ≤ 1024) ⌝ }
-    requires near { ⌜ farNode (climbed (now rows) (stacked (now up) d)) (now rows) (now marks) i ≡ false ⌝ }
-    ensures { λ r. ⌜ r ≡ boxOf (climbed (now (rows .entry)) (stacked (now (up .entry)) d)) (now (rows .entry)) (now (marks .entry)) i ⌝ }
-{
-    if !is_laid(marks, i) {
-        return PixelBox {
-            x: 0,
-            y: 0,
-            width: 0,
-            height: 0,
+    let s = span(rows, up, d, f, i);
+    if too_far(s) {
+        return PixelSpan {
+            far: true,
+            near: 0,
+            size: 0,
         };
     }
-    on_pixels(span(rows, up, d, 0, i), span(rows, up, d, 1, i))
+    PixelSpan {
+        far: false,
+        near: whole_pixel(s.start),
+        size: pixels_between(s.start, s.end),
+    }
+}
+
+fn either(a: bool, b: bool) -> bool
+    ensures { λ r. ⌜ r ≡ (a || b) ⌝ }
+{
+    a || b
+}
+
+// The box of these two.
+fn on_pixels(across: PixelSpan, down: PixelSpan) -> PixelBox
+    ensures { λ r. ⌜ r ≡ boxBy across down ⌝ }
+{
+    PixelBox {
+        x: across.near,
+        y: down.near,
+        width: across.size,
+        height: down.size,
+    }
+}
+
+// A node that is laid.
+fn seen_by(across: PixelSpan, down: PixelSpan) -> Seen
+    ensures { λ r. ⌜ r ≡ seenBy across down ⌝ }
+{
+    Seen {
+        far: either(across.far, down.far),
+        place: on_pixels(across, down),
+    }
+}
+
+// Node i; one that is not laid is never 12, and its box is zeros.
+fn seen_at(rows: &[f32], marks: &[u32], up: &[u32; 32], d: usize, i: usize) -> Seen
+    requires { ⌜ (d ≤ 32) × (i ≤ 1024) ⌝ }
+    ensures { λ r. ⌜ r ≡ seenOf (climbed (now (rows .entry)) (stacked (now (up .entry)) d)) (now (rows .entry)) (now (marks .entry)) i ⌝ }
+{
+    if !is_laid(marks, i) {
+        return Seen {
+            far: false,
+            place: PixelBox {
+                x: 0,
+                y: 0,
+                width: 0,
+                height: 0,
+            },
+        };
+    }
+    seen_by(pixel_span(rows, up, d, 0, i), pixel_span(rows, up, d, 1, i))
 }
 
 // The four numbers of box i.
 fn put_box(out: &mut [i32], i: usize, b: PixelBox)
     requires { ⌜ 4 * i + 4 ≤ length (now out) ⌝ }
-    ensures { λ _. ⌜ now (out .exit) ≡ set (set (set (set (now (out .entry)) (4 * i) (b .x)) (4 * i + 1) (b .y)) (4 * i + 2) (b .width)) (4 * i + 3) (b .height) ⌝ }
+    ensures { λ _. ⌜ now (out .exit) ≡ boxPut (now (out .entry)) i b ⌝ }
 {
     let x = b.x;
     let y = b.y;
@@ -184,25 +199,46 @@ fn put_box(out: &mut [i32], i: usize, b: PixelBox)
     out[4 * i + 3] = height;
 }
 
-// The boxes of n nodes.
-fn put_boxes(words: &[u32], rows: &[f32], marks: &[u32], n: usize, out: &mut [i32])
+// The box, where boxes are put.
+fn put_where(put: bool, out: &mut [i32], i: usize, b: PixelBox)
+    requires { ⌜ 4 * i + 4 ≤ length (now out) ⌝ }
+    ensures { λ _. ⌜ now (out .exit) ≡ cond put (boxPut (now (out .entry)) i b) (now (out .entry)) ⌝ }
+{
+    if put {
+        put_box(out, i, b);
+    }
+}
+
+// 12 ends the walk that tests.
+fn stops(put: bool, far: bool) -> bool
+    ensures { λ r. ⌜ r ≡ (not put && far) ⌝ }
+{
+    !put && far
+}
+
+// One walk over n nodes, made twice: to find the lowest of 12, and then to put the boxes.
+fn walk(words: &[u32], rows: &[f32], marks: &[u32], n: usize, out: &mut [i32], put: bool) -> Found
     requires few { ⌜ n ≤ 1024 ⌝ }
     requires tree { ⌜ (nodesIn (now words) ≡ n) × Sound (badTree (now words)) n ⌝ }
-    requires near { ⌜ Sound (farNode (edgeBy (now words) (now rows)) (now rows) (now marks)) n ⌝ }
     requires long { ⌜ length (now out) ≡ 4 * n ⌝ }
-    ensures { λ _. ⌜ now (out .exit) ≡ boxesOf (boxOf (edgeBy (now (words .entry)) (now (rows .entry))) (now (rows .entry)) (now (marks .entry))) 0 n ⌝ }
+    ensures { λ r. ⌜ Walked put (seenOf (edgeBy (now (words .entry)) (now (rows .entry))) (now (rows .entry)) (now (marks .entry))) n r (now (out .entry)) (now (out .exit)) ⌝ }
 {
     let mut up = [0u32; 32];
     let mut d = 0usize;
     let mut i = 0usize;
     while i < n {
         d = still_above(words, &up, d, i);
-        let b = box_of(rows, marks, &up, d, i);
-        put_box(out, i, b);
+        let s = seen_at(rows, marks, &up, d, i);
+        let place = s.place;
+        put_where(put, out, i, place);
+        if stops(put, s.far) {
+            return Found::At(NodeId(i as u32));
+        }
         up[d] = i as u32;
         d += 1;
         i += 1;
     }
+    Found::Nowhere
 }
 
 // 1: the output has not 4 numbers for each of n nodes.
@@ -214,8 +250,8 @@ fn bad_out(n: usize, out: &[i32]) -> bool
 }
 
 // 1, 2, 3, 7 and 12, before any write.
-fn coarse_tested(words: &[u32], rows: &[f32], marks: &[u32], out: &[i32]) -> CoarseAnswer
-    ensures { λ r. ⌜ r ≡ coarseAnswer (now (words .entry)) (now (rows .entry)) (now (marks .entry)) (length (now (out .entry))) ⌝ }
+fn coarse_tested(words: &[u32], rows: &[f32], marks: &[u32], out: &mut [i32]) -> CoarseAnswer
+    ensures { λ r. ⌜ (r ≡ coarseAnswer (now (words .entry)) (now (rows .entry)) (now (marks .entry)) (length (now (out .entry)))) × (now (out .exit) ≡ now (out .entry)) ⌝ }
 {
     let n = words.len() / 4;
     if bad_out(n, out) {
@@ -224,7 +260,7 @@ fn coarse_tested(words: &[u32], rows: &[f32], marks: &[u32], out: &[i32]) -> Coa
     if let Tested::Refuse(a) = rows_tested(words, rows, marks) {
         return CoarseAnswer::Refused(a);
     }
-    if let Found::At(i) = first_far(words, rows, marks, n) {
+    if let Found::At(i) = walk(words, rows, marks, n, out, false) {
         return CoarseAnswer::TooFar(i);
     }
     CoarseAnswer::Shown
@@ -237,7 +273,7 @@ pub fn coarse(words: &[u32], rows: &[f32], marks: &[u32], out: &mut [i32]) -> Co
     let a = coarse_tested(words, rows, marks, out);
     match a {
         CoarseAnswer::Shown => {
-            put_boxes(words, rows, marks, words.len() / 4, out);
+            walk(words, rows, marks, words.len() / 4, out, true);
             CoarseAnswer::Shown
         }
         CoarseAnswer::Refused(no) => CoarseAnswer::Refused(no),

@@ -1,5 +1,5 @@
 -- A child kept, laid out, and placed, in plain terms.
-use mathlib.Core.Path.{_≡_, refl, sym, ap, _∙_}
+use mathlib.Core.Path.{_≡_, refl, sym, ap, subst, _∙_}
 use mathlib.Core.Bool.{Bool, true, false, not, _&&_}
 use mathlib.Core.List.{List, [], _∷_, _++_}
 use Prim.Native.Nat.{ℕ, suc, _+_, _-_, _/_}
@@ -39,7 +39,7 @@ use Rattle.walks.proofs.Parts.{tree-facts}
 use Rattle.walks.proofs.Given.{facts}
 use Rattle.walks.proofs.Edited.{edited-stays}
 use Rattle.rows.specs.Store.{Becomes, Reads}
-use Rattle.compute.specs.Contract.{IsTree, placedIn, placedBy, placedT, AreT, LaidT, AskedT, PlacedT, Stands, LeafPut}
+use Rattle.compute.specs.Contract.{IsTree, placedIn, placedBy, placedT, AreT, LaidT, AskedT, Hidden, Aside, Settled, Stands, LeafPut}
 use Rattle.compute.proofs.Shape.{sizes-mapF, same-countF}
 use Rattle.compute.proofs.OneTree.{flat-leaf, root-style}
 
@@ -90,7 +90,11 @@ keep-given ws xs rs ms es b depth h =
     let wl = k .tabled .words-long in
     record { numbers = xs; edits = es; base = b + 1; forest = k .forest; tabled = k .tabled; fit = omega (arith, k .fit) }
 
--- placing
+-- one child is placed
+abbrev pub PlacedT : List ℕ → List Float → List Float → List ℕ → List ℕ → ℕ → Frame → Cursor → Cursor → List Float → List ℕ → Type 0
+PlacedT ws xs rs ms es b f c end rs′ ms′ =
+    (t : Tree Cell) → TabledT ws xs rs ms es b t → (end ≡ placedT f c (mapT staying t) .last) × AreT rs′ ms′ (placedT f c (mapT staying t) .rows)
+
 module _ (ws : List ℕ) (xs rs : List Float) (ms es : List ℕ) (b : ℕ) (f : Frame) (c : Cursor) (s : Style) (flow : Flow) (hs : s ≡ styleAt ws 0 xs b) (hf : flow ≡ flowOf s) where
   style-of : (l : Cell) (ks : Forest Cell) → TabledT ws xs rs ms es b (node l ks) → s ≡ rootT (mapT staying (node l ks)) .site .style
   style-of l ks h = hs ∙ tree-facts ws xs rs ms es b l ks h .style-is ∙ sym (root-style l ks)
@@ -111,48 +115,50 @@ module _ (ws : List ℕ) (xs rs : List Float) (ms es : List ℕ) (b : ℕ) (f : 
       let z : onRoot (λ _. r) (zerosT (mapT staying (node l ks))) ≡ node r (zerosF (mapF staying ks)) = rw (mapT-node, mapT-node, onRoot-node) in
       rw z (flat-leaf r (mapF staying ks) (length rs - 16) (length ms - 2) (omega arith) (omega arith))
 
-  pub gone-placed : (end : Cursor) (rs′ : List Float) (ms′ : List ℕ) → flow ≡ Gone → end ≡ pastHidden c → rs′ ≡ rowNumbers (hiddenRow (c .count)) ++ replicate (length rs - 16) zeroF
-      → ms′ ≡ rowWords (hiddenRow (c .count)) ++ replicate (length ms - 2) 0 → PlacedT ws xs rs ms es b f c end rs′ ms′
+  pub gone-placed : (end : Cursor) (rs′ : List Float) (ms′ : List ℕ) → flow ≡ Gone → Hidden rs ms c end rs′ ms′ → PlacedT ws xs rs ms es b f c end rs′ ms′
   unfolding placedBy
-  gone-placed end rs′ ms′ e he hr hm (node l ks) h =
+  gone-placed end rs′ ms′ e hh (node l ks) h =
       let z = zeros-rows (hiddenRow (c .count)) l ks h in
-      rw (placed-of l ks Gone h e) (he, (hr ∙ z .0, hm ∙ z .1))
+      rw (placed-of l ks Gone h e) (hh .0, (hh .1 .0 ∙ z .0, hh .1 .1 ∙ z .1))
 
-  pub out-placed : (end : Cursor) (edges : Line) (line : Float) (rs′ : List Float) (ms′ : List ℕ) → flow ≡ Out → end ≡ pastAside c → edges ≡ edgesOf f → line ≡ lineOf f c
-      → rs′ ≡ rowNumbers (asideRow (edges .start) line (edges .end) (c .shown .0)) ++ replicate (length rs - 16) zeroF
-      → ms′ ≡ rowWords (asideRow (edges .start) line (edges .end) (c .shown .0)) ++ replicate (length ms - 2) 0 → PlacedT ws xs rs ms es b f c end rs′ ms′
+  pub out-placed : (end : Cursor) (rs′ : List Float) (ms′ : List ℕ) → flow ≡ Out → Aside rs ms f c end rs′ ms′ → PlacedT ws xs rs ms es b f c end rs′ ms′
   unfolding placedBy
-  out-placed end edges line rs′ ms′ e he hg hl hr hm (node l ks) h =
+  out-placed end rs′ ms′ e hh (node l ks) h =
       let z = zeros-rows (asideRow (edgesOf f .start) (lineOf f c) (edgesOf f .end) (c .shown .0)) l ks h in
-      rw (placed-of l ks Out h e) (he, ((hr ∙ rw (hg, hl) refl) ∙ z .0, (hm ∙ rw (hg, hl) refl) ∙ z .1))
+      rw (placed-of l ks Out h e) (hh .0, (hh .1 .0 ∙ z .0, hh .1 .1 ∙ z .1))
 
   root-put : (g : Row → Row) (rs1 rs′ : List Float) (ms1 ms′ : List ℕ) (u : Tree Row) → AreT rs1 ms1 u → Becomes rs1 ms1 rs′ ms′ g → AreT rs′ ms′ (onRoot g u)
   root-put g rs1 rs′ ms1 ms′ (node r us) a h =
       let p = h r (flatF newNumbers us) (flatF newWords us) (a .0 ∙ flatT-node newNumbers r us) (a .1 ∙ flatT-node newWords r us) in
       rw onRoot-node (p .0 ∙ sym (flatT-node newNumbers (g r) us), p .1 ∙ sym (flatT-node newWords (g r) us))
 
-  item-placed : (end : Cursor) (q : LayoutInput) (o : LayoutOutput) (i : BlockItem) (p : Point) (rs1 rs′ : List Float) (ms1 ms′ : List ℕ) → flow ≡ In → q ≡ questionTo f s → AskedT ws xs rs ms es b q o rs1 ms1 → i ≡ itemOf f s
-      → p ≡ placeOf f c i o → Becomes rs1 ms1 rs′ ms′ (putAt p (c .shown .0)) → end ≡ stepped f c i o → PlacedT ws xs rs ms es b f c end rs′ ms′
+  item-placed : (end : Cursor) (q : LayoutInput) (o : LayoutOutput) (i : BlockItem) (rs1 rs′ : List Float) (ms1 ms′ : List ℕ) → flow ≡ In → q ≡ questionTo f s → AskedT ws xs rs ms es b q o rs1 ms1 → i ≡ itemOf f s
+      → Becomes rs1 ms1 rs′ ms′ (putAt (placeOf f c i o) (c .shown .0)) → end ≡ stepped f c i o → PlacedT ws xs rs ms es b f c end rs′ ms′
   unfolding placedBy placedIn
-  item-placed end q o i p rs1 rs′ ms1 ms′ e hq ha hi hp hb he (node l ks) h =
+  item-placed end q o i rs1 rs′ ms1 ms′ e hq ha hi hb he (node l ks) h =
       let t = mapT staying (node l ks) in
       let st = style-of l ks h in
       let a = ha (node l ks) h in
       let qq : q ≡ questionTo f (rootT t .site .style) = hq ∙ ap (questionTo f) st in
       let oo : o ≡ askT t (questionTo f (rootT t .site .style)) .out = a .0 ∙ ap (λ (z : LayoutInput). askT t z .out) qq in
       let ii : i ≡ itemOf f (rootT t .site .style) = hi ∙ ap (itemOf f) st in
-      let pp : p ≡ placeOf f c (itemOf f (rootT t .site .style)) (askT t (questionTo f (rootT t .site .style)) .out) = hp ∙ rw (ii, oo) refl in
-      let z = root-put (putAt p (c .shown .0)) rs1 rs′ ms1 ms′ (askT t q .rows) (a .1) hb in
-      let y : onRoot (putAt p (c .shown .0)) (askT t q .rows) ≡ placedIn f c t (askT t (questionTo f (rootT t .site .style))) .rows = rw (pp, qq) refl in
+      let z = root-put (putAt (placeOf f c i o) (c .shown .0)) rs1 rs′ ms1 ms′ (askT t q .rows) (a .1) hb in
+      let y : onRoot (putAt (placeOf f c i o) (c .shown .0)) (askT t q .rows) ≡ placedIn f c t (askT t (questionTo f (rootT t .site .style))) .rows = rw (ii, oo, qq) refl in
       rw (placed-of l ks In h e) (he ∙ rw (ii, oo) refl, (z .0 ∙ ap (flatT newNumbers) y, z .1 ∙ ap (flatT newWords) y))
 
   -- the same with what is held of the item
-  pub in-placed : (end : Cursor) (q : LayoutInput) (o : LayoutOutput) (g : Footing) (p : Point) (rs1 rs′ : List Float) (ms1 ms′ : List ℕ) → flow ≡ In → q ≡ questionTo f s → AskedT ws xs rs ms es b q o rs1 ms1 → g ≡ footingOf (itemOf f s)
-      → ((z : Sizing) → p ≡ placeOf f c (itemWith z g) o) → Becomes rs1 ms1 rs′ ms′ (putAt p (c .shown .0)) → ((z : Sizing) → end ≡ stepped f c (itemWith z g) o) → PlacedT ws xs rs ms es b f c end rs′ ms′
-  in-placed end q o g p rs1 rs′ ms1 ms′ e hq ha hg hp hb he =
+  pub in-placed : (end : Cursor) (q : LayoutInput) (o : LayoutOutput) (g : Footing) (rs1 rs′ : List Float) (ms1 ms′ : List ℕ) → flow ≡ In → q ≡ questionTo f s → AskedT ws xs rs ms es b q o rs1 ms1 → g ≡ footingOf (itemOf f s)
+      → Settled rs1 ms1 f c g o end rs′ ms′ → PlacedT ws xs rs ms es b f c end rs′ ms′
+  in-placed end q o g rs1 rs′ ms1 ms′ e hq ha hg hh =
       let i = itemOf f s in
       let w = with-footing i g hg in
-      item-placed end q o i p rs1 rs′ ms1 ms′ e hq ha refl (hp (i .sizing) ∙ ap (λ (j : BlockItem). placeOf f c j o) w) hb (he (i .sizing) ∙ ap (λ (j : BlockItem). stepped f c j o) w)
+      let k = hh (i .sizing) in
+      item-placed end q o i rs1 rs′ ms1 ms′ e hq ha refl (subst (λ (j : BlockItem). Becomes rs1 ms1 rs′ ms′ (putAt (placeOf f c j o) (c .shown .0))) w (k .1)) (k .0 ∙ ap (λ (j : BlockItem). stepped f c j o) w)
+
+-- what `settle` leaves
+pub settled : (rs rs′ : List Float) (ms ms′ : List ℕ) (f : Frame) (c : Cursor) (i : Footing) (o : LayoutOutput) (end : Cursor) (p : Point) → ((z : Sizing) → p ≡ placeOf f c (itemWith z i) o)
+    → Becomes rs ms rs′ ms′ (putAt p (c .shown .0)) → ((z : Sizing) → end ≡ stepped f c (itemWith z i) o) → Settled rs ms f c i o end rs′ ms′
+settled rs rs′ ms ms′ f c i o end p hp hb he z = (he z, subst (λ (x : Point). Becomes rs ms rs′ ms′ (putAt x (c .shown .0))) (hp z) hb)
 
 -- a leaf's row, and what is cleared after it
 clear-rest : {A : Type 0} (x z l nr : List A) (v : A) (k n : ℕ) → length x ≡ k → l ≡ x ++ z → length l ≡ n → nr ≡ replicate (length (take (length l - k) (drop k l))) v → putMid k (length l - k) l nr ≡ x ++ replicate (n - k) v

@@ -3,3 +3,4 @@ pub mod Shape
 pub mod StackLoop
 pub mod OneTree
 pub mod Asked
+pub mod Twice

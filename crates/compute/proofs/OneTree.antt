@@ -38,8 +38,9 @@ use Rattle.walks.proofs.Sizes.{sizes-ofF}
 use Rattle.walks.proofs.Zeros.{zero-rows, zero-marks}
 use Rattle.walks.proofs.LowerLoop.{lowerF-none, lowerF-more}
 use Rattle.rows.specs.Store.{Becomes}
-use Rattle.compute.specs.Contract.{IsTree, AreT, LaidT, LaidF, Aligned, LeafPut}
+use Rattle.compute.specs.Contract.{IsTree, AreT, LaidT, Aligned, LeafPut}
 use Rattle.compute.proofs.Shape.{sizes-layF, sizes-mapF, same-countF}
+use Rattle.compute.proofs.StackLoop.{StackT}
 
 -- the label of a tree that stays
 stay-node : (l : Cell) (ks : Forest Cell) → mapT staying (node l ks) ≡ node (staying l) (mapF staying ks)
@@ -117,30 +118,24 @@ block-rows : (l : Node) (q : LayoutInput) (f : Frame) (s : Stacked)
 unfolding blockLaid
 block-rows l q f s = refl
 
-module _ (ws : List ℕ) (xs rs : List Float) (ms es : List ℕ) (b : ℕ) (q : LayoutInput) (found : Float) (s : Style) (f : Frame) (end : Cursor) (d : Finished) (nr rs2 : List Float) (nm ms2 : List ℕ)
+module _ (ws : List ℕ) (xs rs : List Float) (ms es : List ℕ) (b : ℕ) (q : LayoutInput) (found : Float) (s : Style) (f : Frame) (end : Cursor) (d : Finished) (rs1 rs2 : List Float) (ms1 ms2 : List ℕ)
     (hs : s ≡ styleAt ws 0 xs b) (hl : isLeaf (s .kind) ≡ false) (hf : f ≡ frameOf s q found)
-    (stacked : LaidF (take (length ws - 4) (drop 4 ws)) xs (take (length rs - 16) (drop 16 rs)) (take (length ms - 2) (drop 2 ms)) es (b + 1) f end nr nm)
+    (stacked : (t : Tree Cell) → TabledT ws xs rs ms es b t → StackT rs1 ms1 f t end)
     (hd : d ≡ finished s q f end)
-    (headed : Becomes (putMid 16 (length rs - 16) rs nr) (putMid 2 (length ms - 2) ms nm) rs2 ms2 (λ r. laidRow q (d .output) (probeOf r)))
+    (headed : Becomes rs1 ms1 rs2 ms2 (λ r. laidRow q (d .output) (probeOf r)))
   where
     record Inside (l : Cell) (ks : Forest Cell) : Type 0 where
       style-is : s ≡ staying l .site .style
       end-is : end ≡ layF (mapF staying ks) f (startOf f) .last
-      rows2-is : rs2 ≡ rowNumbers (laidRow q (d .output) (probeOf (l .old))) ++ nr
-      marks2-is : ms2 ≡ rowWords (laidRow q (d .output) (probeOf (l .old))) ++ nm
-      nr-is : nr ≡ flatF newNumbers (layF (mapF staying ks) f (startOf f) .rows)
-      nm-is : nm ≡ flatF newWords (layF (mapF staying ks) f (startOf f) .rows)
+      rows2-is : rs2 ≡ rowNumbers (laidRow q (d .output) (probeOf (l .old))) ++ flatF newNumbers (layF (mapF staying ks) f (startOf f) .rows)
+      marks2-is : ms2 ≡ rowWords (laidRow q (d .output) (probeOf (l .old))) ++ flatF newWords (layF (mapF staying ks) f (startOf f) .rows)
 
     inside : (l : Cell) (ks : Forest Cell) → TabledT ws xs rs ms es b (node l ks) → Inside l ks
     inside l ks h =
         let k = tree-facts ws xs rs ms es b l ks h in
-        let g = stacked ks (k .kids) in
-        let t16 : take 16 rs ≡ rowNumbers (l .old) = ap (take 16) (k .rows-head) in
-        let t2 : take 2 ms ≡ rowWords (l .old) = ap (take 2) (k .marks-head) in
-        let e1 : putMid 16 (length rs - 16) rs nr ≡ rowNumbers (l .old) ++ nr = tail-put 16 rs nr ∙ ap (λ (z : List Float). z ++ nr) t16 in
-        let e2 : putMid 2 (length ms - 2) ms nm ≡ rowWords (l .old) ++ nm = tail-put 2 ms nm ∙ ap (λ (z : List ℕ). z ++ nm) t2 in
-        let p = headed (l .old) nr nm e1 e2 in
-        record { style-is = hs ∙ k .style-is ∙ sym (stay-style l); end-is = g .0; rows2-is = p .0; marks2-is = p .1; nr-is = g .1 .0; nm-is = g .1 .1 }
+        let g = stacked (node l ks) h in
+        let p = headed (l .old) _ _ (g .rows-are) (g .marks-are) in
+        record { style-is = hs ∙ k .style-is ∙ sym (stay-style l); end-is = g .end-is; rows2-is = p .0; marks2-is = p .1 }
 
     -- what step M is given
     rows-given : (l : Cell) (ks : Forest Cell) → TabledT ws xs rs ms es b (node l ks)
@@ -153,8 +148,8 @@ module _ (ws : List ℕ) (xs rs : List Float) (ms es : List ℕ) (b : ℕ) (q : 
         record {
           words-long = k .words-long ∙ ap (λ (n : ℕ). 4 * n) (sym cc1);
           sizes-are = ap (from (λ n. wordAt (take (length ws - 4) (drop 4 ws)) n 0) 0) cc1 ∙ sizes-ofF (take (length ws - 4) (drop 4 ws)) xs es (b + 1) ks (k .sites-are) ∙ sym ss;
-          rows-are = tail-part 16 rs2 ∙ ap (drop 16) (i .rows2-is) ∙ i .nr-is;
-          marks-are = tail-part 2 ms2 ∙ ap (drop 2) (i .marks2-is) ∙ i .nm-is;
+          rows-are = tail-part 16 rs2 ∙ ap (drop 16) (i .rows2-is);
+          marks-are = tail-part 2 ms2 ∙ ap (drop 2) (i .marks2-is);
         }
 
     pub align-given : (depth : ℕ) → IsTree ws xs rs ms es b depth → IsRows (take (length ws - 4) (drop 4 ws)) (take (length rs2 - 16) (drop 16 rs2)) (take (length ms2 - 2) (drop 2 ms2))
@@ -182,6 +177,6 @@ module _ (ws : List ℕ) (xs rs : List Float) (ms es : List ℕ) (b : ℕ) (q : 
           (
             tail-put 16 rs2 nr3 ∙ ap (λ (z : List Float). z ++ nr3) h16 ∙ ap (λ (z : List Float). rowNumbers (laidRow q (d .output) (probeOf (l .old))) ++ z) a
                 ∙ sym (ap (flatT newNumbers) rr ∙ flatT-node newNumbers _ _),
-            i .marks2-is ∙ ap (λ (z : List ℕ). rowWords (laidRow q (d .output) (probeOf (l .old))) ++ z) (i .nm-is ∙ sym (marks-align (d .shift) (layF (mapF staying ks) f (startOf f) .rows))) ∙ sym (ap (flatT newWords) rr ∙ flatT-node newWords _ _),
+            i .marks2-is ∙ ap (λ (z : List ℕ). rowWords (laidRow q (d .output) (probeOf (l .old))) ++ z) (sym (marks-align (d .shift) (layF (mapF staying ks) f (startOf f) .rows))) ∙ sym (ap (flatT newWords) rr ∙ flatT-node newWords _ _),
           ),
         )

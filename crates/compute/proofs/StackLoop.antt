@@ -1,67 +1,82 @@
--- The loop over the children of a container: what is left of the forest, which still has its old rows, and one turn.
+-- The loop over the children of a container: what is left of them, which still has its old rows, and one turn.
 use mathlib.Core.Path.{_≡_, refl, sym, ap, _∙_}
-use mathlib.Core.List.{List, [], _++_, append-assoc}
-use Prim.Native.Nat.{ℕ, _+_, _*_, _-_, _<_, _≤_}
+use mathlib.Core.List.{List, _++_, append-assoc}
+use Prim.Native.Nat.{ℕ, suc, _+_, _*_, _-_, _<_, _≤_}
 use native.Mathlib.Omega.{arith}
 use lib.ListN.{length, take, drop}
 use lib.Ieee.{Float}
 use borrow.Rule.Slice.PartMut.{putMid}
 use Rattle.style.specs.Style.{wordAt}
-use Rattle.tree.specs.Tree.{Tree, Forest, node, none, more, countT, depthT, depthF, flatF, mapT, mapF}
-use Rattle.tree.proofs.Laws.{flatF-none, flatF-more, mapF-none, mapF-more, depthF-more, length-flatT}
+use Rattle.tree.specs.Tree.{Tree, Forest, node, none, more, countT, countF, depthT, depthF, flatF, mapT, mapF}
+use Rattle.tree.proofs.Laws.{countT-node, flatF-none, flatF-more, mapF-none, mapF-more, depthT-node, depthF-more, length-flatT}
+use Rattle.steps.specs.Row.{rowNumbers, rowWords}
 use Rattle.steps.specs.Stack.{startOf}
-use Rattle.steps.specs.Page.{Cell, staying}
+use Rattle.steps.specs.Page.{Cell, siteAt, staying}
 use Rattle.steps.specs.Layout.{layF}
 use Rattle.steps.specs.declared.Frame.{Frame}
 use Rattle.steps.specs.declared.Cursor.{Cursor}
 use Rattle.steps.proofs.Clauses.{layF-none}
-use Rattle.walks.specs.Tables.{oldNumbers, oldWords, newNumbers, newWords, TabledT, TabledF}
-use Rattle.walks.proofs.Parts.{Left, child-of, left-begin, left-none, left-some}
-use Rattle.compute.specs.Contract.{placedT, AreT, AreF}
+use Rattle.walks.specs.Tables.{oldNumbers, oldWords, newNumbers, newWords, TabledT}
+use Rattle.walks.proofs.Parts.{Left, child-of, kids-sites, left-none, left-some, tree-facts}
+use Rattle.compute.specs.Contract.{placedT, AreT}
 use Rattle.compute.proofs.OneChild.{layF-more, andThen, counts-more}
 use Rattle.compute.proofs.Shape.{sizes-placed, sizes-map, same-countT}
 
-pub record Rest (ws : List ℕ) (xs rs : List Float) (ms es : List ℕ) (b : ℕ) (f : Frame) (ts : Forest Cell) (c : Cursor) (a : ℕ) : Type 0 where
+-- of the children ts of a node whose own row has the numbers hr and the words hm
+pub record Rest (ws : List ℕ) (xs rs : List Float) (ms es : List ℕ) (b : ℕ) (f : Frame) (hr : List Float) (hm : List ℕ) (ts : Forest Cell) (c : Cursor) (a : ℕ) : Type 0 where
   pub left : Forest Cell
   pub q : List Float
   pub p : List ℕ
   pub here : Left ws xs rs ms es b a left q p
   pub shallow : (d : ℕ) → depthF ts ≤ d → depthF left ≤ d
   pub end-same : layF (mapF staying ts) f (startOf f) .last ≡ layF (mapF staying left) f c .last
-  pub rows-done : flatF newNumbers (layF (mapF staying ts) f (startOf f) .rows) ≡ q ++ flatF newNumbers (layF (mapF staying left) f c .rows)
-  pub marks-done : flatF newWords (layF (mapF staying ts) f (startOf f) .rows) ≡ p ++ flatF newWords (layF (mapF staying left) f c .rows)
+  pub rows-done : hr ++ flatF newNumbers (layF (mapF staying ts) f (startOf f) .rows) ≡ q ++ flatF newNumbers (layF (mapF staying left) f c .rows)
+  pub marks-done : hm ++ flatF newWords (layF (mapF staying ts) f (startOf f) .rows) ≡ p ++ flatF newWords (layF (mapF staying left) f c .rows)
 
-pub begin : (ws : List ℕ) (xs rs : List Float) (ms es : List ℕ) (b : ℕ) (f : Frame) (c : Cursor) → c ≡ startOf f → (ts : Forest Cell) → TabledF ws xs rs ms es b ts → Rest ws xs rs ms es b f ts c 0
-begin ws xs rs ms es b f c e ts h =
+abbrev pub RestT : List ℕ → List Float → List Float → List ℕ → List ℕ → ℕ → Frame → Tree Cell → Cursor → ℕ → Type 0
+RestT ws xs rs ms es b f (node l ks) c a = Rest ws xs rs ms es b f (rowNumbers (l .old)) (rowWords (l .old)) ks c a
+
+-- nothing is done but the node's own row
+pub begin : (ws : List ℕ) (xs rs : List Float) (ms es : List ℕ) (b : ℕ) (f : Frame) (c : Cursor) → c ≡ startOf f → (t : Tree Cell) → TabledT ws xs rs ms es b t → RestT ws xs rs ms es b f t c 1
+begin ws xs rs ms es b f c e (node l ks) h =
+    let k = tree-facts ws xs rs ms es b l ks h in
+    let one : countT (node l ks) ≡ suc (countF ks) = countT-node l ks in
     record {
-      left = ts;
-      q = [];
-      p = [];
-      here = left-begin ws xs rs ms es b ts h;
-      shallow = λ d k. k;
+      left = ks;
+      q = rowNumbers (l .old);
+      p = rowWords (l .old);
+      here = record {
+        words-long = h .words-long ∙ omega arith;
+        sites-left = kids-sites (siteAt ws xs es b) 0 l ks (h .sites-are);
+        rows-split = k .rows-head;
+        q-long = refl;
+        marks-split = k .marks-head;
+        p-long = refl;
+      };
+      shallow = λ d z. z;
       end-same = rw e refl;
       rows-done = rw e refl;
       marks-done = rw e refl;
     }
 
-pub record Turn (ws : List ℕ) (xs rs : List Float) (ms es : List ℕ) (b : ℕ) (f : Frame) (ts : Forest Cell) (c : Cursor) (a e : ℕ) : Type 0 where
+pub record Turn (ws : List ℕ) (xs rs : List Float) (ms es : List ℕ) (b : ℕ) (f : Frame) (t : Tree Cell) (c : Cursor) (a e : ℕ) : Type 0 where
   pub some : a < e
   pub words-in : 4 * e ≤ length ws
   pub rows-long : length rs ≡ 4 * length ws
   pub marks-long : 2 * length ms ≡ length ws
   pub tree : Tree Cell
   pub tabled : TabledT (take (4 * e - 4 * a) (drop (4 * a) ws)) xs (take (16 * e - 16 * a) (drop (16 * a) rs)) (take (2 * e - 2 * a) (drop (2 * a) ms)) es (b + a) tree
-  pub shallow : (d : ℕ) → depthF ts ≤ d → depthT tree ≤ d
+  pub shallow : (d : ℕ) → depthT t ≤ d → depthT tree ≤ d - 1
   pub count-is : a + countT tree ≡ e
   pub counted : (c′ : Cursor) → c′ ≡ placedT f c (mapT staying tree) .last → (c′ .count ≡ c .count + 1) × (c′ .shown .0 ≤ c .shown .0 + 1)
   pub next : (c′ : Cursor) (nr : List Float) (nm : List ℕ) → (c′ ≡ placedT f c (mapT staying tree) .last) × AreT nr nm (placedT f c (mapT staying tree) .rows)
-      → Rest ws xs (putMid (16 * a) (16 * e - 16 * a) rs nr) (putMid (2 * a) (2 * e - 2 * a) ms nm) es b f ts c′ e
+      → RestT ws xs (putMid (16 * a) (16 * e - 16 * a) rs nr) (putMid (2 * a) (2 * e - 2 * a) ms nm) es b f t c′ e
 
-module _ (ws : List ℕ) (xs rs : List Float) (ms es : List ℕ) (b : ℕ) (f : Frame) (ts : Forest Cell) (c : Cursor) (a e : ℕ) (ed : e ≡ a + wordAt ws a 0) where
+module _ (ws : List ℕ) (xs rs : List Float) (ms es : List ℕ) (b : ℕ) (f : Frame) (root : Cell) (ts : Forest Cell) (c : Cursor) (a e : ℕ) (ed : e ≡ a + wordAt ws a 0) where
   turn-of : (left : Forest Cell) (q : List Float) (p : List ℕ) → Left ws xs rs ms es b a left q p → ((d : ℕ) → depthF ts ≤ d → depthF left ≤ d)
       → layF (mapF staying ts) f (startOf f) .last ≡ layF (mapF staying left) f c .last
-      → flatF newNumbers (layF (mapF staying ts) f (startOf f) .rows) ≡ q ++ flatF newNumbers (layF (mapF staying left) f c .rows)
-      → flatF newWords (layF (mapF staying ts) f (startOf f) .rows) ≡ p ++ flatF newWords (layF (mapF staying left) f c .rows) → 4 * a < length ws → Turn ws xs rs ms es b f ts c a e
+      → rowNumbers (root .old) ++ flatF newNumbers (layF (mapF staying ts) f (startOf f) .rows) ≡ q ++ flatF newNumbers (layF (mapF staying left) f c .rows)
+      → rowWords (root .old) ++ flatF newWords (layF (mapF staying ts) f (startOf f) .rows) ≡ p ++ flatF newWords (layF (mapF staying left) f c .rows) → 4 * a < length ws → Turn ws xs rs ms es b f (node root ts) c a e
   turn-of none q p h sh se dr dm lt = absurd (left-some ws xs rs ms es b a q p h lt)
   turn-of (more (node l ks) us) q p h sh se dr dm lt =
       let t : Tree Cell = node l ks in
@@ -76,7 +91,7 @@ module _ (ws : List ℕ) (xs rs : List Float) (ms es : List ℕ) (b : ℕ) (f : 
         marks-long = k .marks-long;
         tree = t;
         tabled = k .tabled;
-        shallow = λ d hd. let z = simp depthF-more at (sh d hd) in omega arith;
+        shallow = λ d hd. let y = simp depthT-node at hd in let z = simp depthF-more at (sh (d - 1) (omega arith)) in omega arith;
         count-is = sym (k .size-is);
         counted = λ c′ hc. rw hc (counts-more f c u);
         next = λ c′ nr nm hh.
@@ -94,27 +109,34 @@ module _ (ws : List ℕ) (xs rs : List Float) (ms es : List ℕ) (b : ℕ) (f : 
             };
       }
 
-  pub turn : Rest ws xs rs ms es b f ts c a → 4 * a < length ws → Turn ws xs rs ms es b f ts c a e
-  turn s = turn-of (s .left) (s .q) (s .p) (s .here) (s .shallow) (s .end-same) (s .rows-done) (s .marks-done)
+pub turn : (ws : List ℕ) (xs rs : List Float) (ms es : List ℕ) (b : ℕ) (f : Frame) (t : Tree Cell) (c : Cursor) (a e : ℕ) → e ≡ a + wordAt ws a 0 → RestT ws xs rs ms es b f t c a → 4 * a < length ws → Turn ws xs rs ms es b f t c a e
+turn ws xs rs ms es b f (node l ks) c a e ed s = turn-of ws xs rs ms es b f l ks c a e ed (s .left) (s .q) (s .p) (s .here) (s .shallow) (s .end-same) (s .rows-done) (s .marks-done)
 
-end-of : (ws : List ℕ) (xs rs : List Float) (ms es : List ℕ) (b : ℕ) (f : Frame) (ts : Forest Cell) (c : Cursor) (a : ℕ) (left : Forest Cell) (q : List Float) (p : List ℕ) → Left ws xs rs ms es b a left q p
+-- all children are done: where the stack ended, and the rows below the node's own
+pub record Stack (rs : List Float) (ms : List ℕ) (f : Frame) (l : Cell) (ks : Forest Cell) (c : Cursor) : Type 0 where
+  pub end-is : c ≡ layF (mapF staying ks) f (startOf f) .last
+  pub rows-are : rs ≡ rowNumbers (l .old) ++ flatF newNumbers (layF (mapF staying ks) f (startOf f) .rows)
+  pub marks-are : ms ≡ rowWords (l .old) ++ flatF newWords (layF (mapF staying ks) f (startOf f) .rows)
+
+abbrev pub StackT : List Float → List ℕ → Frame → Tree Cell → Cursor → Type 0
+StackT rs ms f (node l ks) c = Stack rs ms f l ks c
+
+end-of : (ws : List ℕ) (xs rs : List Float) (ms es : List ℕ) (b : ℕ) (f : Frame) (l : Cell) (ts : Forest Cell) (c : Cursor) (a : ℕ) (left : Forest Cell) (q : List Float) (p : List ℕ) → Left ws xs rs ms es b a left q p
     → layF (mapF staying ts) f (startOf f) .last ≡ layF (mapF staying left) f c .last
-    → flatF newNumbers (layF (mapF staying ts) f (startOf f) .rows) ≡ q ++ flatF newNumbers (layF (mapF staying left) f c .rows)
-    → flatF newWords (layF (mapF staying ts) f (startOf f) .rows) ≡ p ++ flatF newWords (layF (mapF staying left) f c .rows) → length ws ≤ 4 * a
-    → (c ≡ layF (mapF staying ts) f (startOf f) .last) × AreF rs ms (layF (mapF staying ts) f (startOf f) .rows)
-end-of ws xs rs ms es b f ts c a none q p h se dr dm le =
-    let lay : layF (mapF staying none) f c ≡ record { last = c; rows = none } = ap (λ z. layF z f c) (mapF-none staying) ∙ layF-none f c in (
-      sym (se ∙ ap (λ s. s .last) lay),
-      (
-        h .rows-split ∙ ap (λ (z : List Float). q ++ z) (flatF-none oldNumbers ∙ sym (ap (λ s. flatF newNumbers (s .rows)) lay ∙ flatF-none newNumbers)) ∙ sym dr,
-        h .marks-split ∙ ap (λ (z : List ℕ). p ++ z) (flatF-none oldWords ∙ sym (ap (λ s. flatF newWords (s .rows)) lay ∙ flatF-none newWords)) ∙ sym dm,
-      ),
-    )
-end-of ws xs rs ms es b f ts c a (more t us) q p h se dr dm le = absurd (left-none ws xs rs ms es b a t us q p h le)
+    → rowNumbers (l .old) ++ flatF newNumbers (layF (mapF staying ts) f (startOf f) .rows) ≡ q ++ flatF newNumbers (layF (mapF staying left) f c .rows)
+    → rowWords (l .old) ++ flatF newWords (layF (mapF staying ts) f (startOf f) .rows) ≡ p ++ flatF newWords (layF (mapF staying left) f c .rows) → length ws ≤ 4 * a
+    → Stack rs ms f l ts c
+end-of ws xs rs ms es b f l ts c a none q p h se dr dm le =
+    let lay : layF (mapF staying none) f c ≡ record { last = c; rows = none } = ap (λ z. layF z f c) (mapF-none staying) ∙ layF-none f c in
+    record {
+      end-is = sym (se ∙ ap (λ s. s .last) lay);
+      rows-are = h .rows-split ∙ ap (λ (z : List Float). q ++ z) (flatF-none oldNumbers ∙ sym (ap (λ s. flatF newNumbers (s .rows)) lay ∙ flatF-none newNumbers)) ∙ sym dr;
+      marks-are = h .marks-split ∙ ap (λ (z : List ℕ). p ++ z) (flatF-none oldWords ∙ sym (ap (λ s. flatF newWords (s .rows)) lay ∙ flatF-none newWords)) ∙ sym dm;
+    }
+end-of ws xs rs ms es b f l ts c a (more t us) q p h se dr dm le = absurd (left-none ws xs rs ms es b a t us q p h le)
 
-pub end : (ws : List ℕ) (xs rs : List Float) (ms es : List ℕ) (b : ℕ) (f : Frame) (ts : Forest Cell) (c : Cursor) (a : ℕ) → Rest ws xs rs ms es b f ts c a → length ws ≤ 4 * a
-    → (c ≡ layF (mapF staying ts) f (startOf f) .last) × AreF rs ms (layF (mapF staying ts) f (startOf f) .rows)
-end ws xs rs ms es b f ts c a s = end-of ws xs rs ms es b f ts c a (s .left) (s .q) (s .p) (s .here) (s .end-same) (s .rows-done) (s .marks-done)
+pub end : (ws : List ℕ) (xs rs : List Float) (ms es : List ℕ) (b : ℕ) (f : Frame) (t : Tree Cell) (c : Cursor) (a : ℕ) → RestT ws xs rs ms es b f t c a → length ws ≤ 4 * a → StackT rs ms f t c
+end ws xs rs ms es b f (node l ks) c a s = end-of ws xs rs ms es b f l ks c a (s .left) (s .q) (s .p) (s .here) (s .end-same) (s .rows-done) (s .marks-done)
 
 -- at the start nothing is counted
 pub start-counts : (f : Frame) (c : Cursor) → c ≡ startOf f → (c .count ≤ 0) × (c .shown .0 ≤ 0)

@@ -3,7 +3,8 @@ ghost use mathlib.Core.Path.{_≡_};
 ghost use Rattle.rows.specs.Store.{OneRow};
 ghost use Rattle.steps.specs.Stack.{Counts};
 ghost use Rattle.walks.specs.Tables.{IsRows};
-ghost use Rattle.compute.specs.Contract.{IsTree, IsForest, LaidT, AskedT, PlacedT, LaidF, Aligned, LeafPut, Stands};
+ghost use Rattle.compute.specs.Contract.{IsTree, LaidT, AskedT, Aligned, LeafPut, Hidden, Aside, Settled, Stands};
+use stacking::Footing;
 use steps::Cursor;
 use steps::Frame;
 use steps::LayoutInput;
@@ -43,7 +44,50 @@ fn stands(rows: &[f32], marks: &[u32], edits: &[u32], base: usize, n: usize, q: 
     rows::final_stands(rows, marks, q)
 }
 
-// One container: steps A to N.
+// A hidden child: its order; the cursor counts it.
+fn pass_hidden(rows: &mut [f32], marks: &mut [u32], c: Cursor) -> Cursor
+    requires room { ⌜ OneRow (now rows) (now marks) ⌝ }
+    requires counts { ⌜ Counts c ⌝ }
+    ensures { λ r. ⌜ Hidden (now (rows .entry)) (now (marks .entry)) c r (now (rows .exit)) (now (marks .exit)) ⌝ }
+{
+    rows::put_hidden(rows, marks, c.count);
+    stacking::past_hidden(c)
+}
+
+// A child out of the flow: its edges and line.
+fn pass_aside(rows: &mut [f32], marks: &mut [u32], f: Frame, c: Cursor) -> Cursor
+    requires room { ⌜ OneRow (now rows) (now marks) ⌝ }
+    requires counts { ⌜ Counts c ⌝ }
+    ensures { λ r. ⌜ Aside (now (rows .entry)) (now (marks .entry)) f c r (now (rows .exit)) (now (marks .exit)) ⌝ }
+{
+    let shown = c.shown;
+    let edges = stacking::edges_of(f);
+    let line = stacking::line_of(f, c);
+    rows::put_aside(rows, marks, edges, line, shown);
+    stacking::past_aside(c)
+}
+
+// A child that has answered: its place.
+fn settle(
+    rows: &mut [f32],
+    marks: &mut [u32],
+    f: Frame,
+    c: Cursor,
+    i: Footing,
+    o: LayoutOutput,
+) -> Cursor
+    requires room { ⌜ OneRow (now rows) (now marks) ⌝ }
+    requires counts { ⌜ Counts c ⌝ }
+    ensures { λ r. ⌜ Settled (now (rows .entry)) (now (marks .entry)) f c i o r (now (rows .exit)) (now (marks .exit)) ⌝ }
+{
+    let p = stacking::place_of(f, c, i, o);
+    let shown = c.shown;
+    rows::put_place(rows, marks, p, shown);
+    stacking::stepped_past(f, c, i, o)
+}
+
+// One container: steps A to N. Frame and cursor stand here alone while the children are laid out: one function, so that a
+// level takes little stack.
 pub fn compute_block_layout(
     words: &[u32],
     numbers: &[f32],
@@ -64,40 +108,8 @@ pub fn compute_block_layout(
         return o;
     }
     let f = frames::frame_at(words, numbers, base, q, found);
-    let end = perform_final_layout_on_in_flow_children(
-        &words[4..],
-        numbers,
-        &mut rows[16..],
-        &mut marks[2..],
-        edits,
-        base + 1,
-        depth - 1,
-        f,
-    );
-    let d = heights::finish_at(words, numbers, base, q, f, end);
-    let o = d.output;
-    let shift = d.shift;
-    rows::put_head(rows, marks, q, o);
-    align(&words[4..], &mut rows[16..], &marks[2..], shift);
-    o
-}
-
-// The children of a container, one after the other: step J.
-fn perform_final_layout_on_in_flow_children(
-    words: &[u32],
-    numbers: &[f32],
-    rows: &mut [f32],
-    marks: &mut [u32],
-    edits: &[u32],
-    base: usize,
-    depth: usize,
-    f: Frame,
-) -> Cursor
-    requires { ⌜ IsForest (now words) (now numbers) (now rows) (now marks) (now edits) base depth ⌝ }
-    ensures { λ r. ⌜ LaidF (now (words .entry)) (now (numbers .entry)) (now (rows .entry)) (now (marks .entry)) (now (edits .entry)) base f r (now (rows .exit)) (now (marks .exit)) ⌝ }
-{
     let mut c = stacking::start_of(f);
-    let mut a = 0usize;
+    let mut a = 1usize;
     while 4 * a < words.len() {
         let e = a + style::word_in(words, a, 0) as usize;
         let a4 = 4 * a;
@@ -106,62 +118,39 @@ fn perform_final_layout_on_in_flow_children(
         let e16 = 16 * e;
         let a2 = 2 * a;
         let e2 = 2 * e;
-        c = perform_child_layout(
-            &words[a4..e4],
-            numbers,
-            &mut rows[a16..e16],
-            &mut marks[a2..e2],
-            edits,
-            base + a,
-            depth,
-            f,
-            c,
-        );
+        let flow = reader::flow(&words[a4..e4]);
+        match flow {
+            Flow::Gone => {
+                c = pass_hidden(&mut rows[a16..e16], &mut marks[a2..e2], c);
+            }
+            Flow::Out => {
+                c = pass_aside(&mut rows[a16..e16], &mut marks[a2..e2], f, c);
+            }
+            Flow::In => {
+                let plan = stacking::item::plan_at(&words[a4..e4], numbers, base + a, f);
+                let ask = plan.input;
+                let i = plan.footing;
+                let o = compute_child_layout(
+                    &words[a4..e4],
+                    numbers,
+                    &mut rows[a16..e16],
+                    &mut marks[a2..e2],
+                    edits,
+                    base + a,
+                    depth - 1,
+                    ask,
+                );
+                c = settle(&mut rows[a16..e16], &mut marks[a2..e2], f, c, i, o);
+            }
+        }
         a = e;
     }
-    c
-}
-
-// One child: hidden, out of flow, or asked and placed.
-fn perform_child_layout(
-    words: &[u32],
-    numbers: &[f32],
-    rows: &mut [f32],
-    marks: &mut [u32],
-    edits: &[u32],
-    base: usize,
-    depth: usize,
-    f: Frame,
-    c: Cursor,
-) -> Cursor
-    requires tables { ⌜ IsTree (now words) (now numbers) (now rows) (now marks) (now edits) base depth ⌝ }
-    requires counts { ⌜ Counts c ⌝ }
-    ensures { λ r. ⌜ PlacedT (now (words .entry)) (now (numbers .entry)) (now (rows .entry)) (now (marks .entry)) (now (edits .entry)) base f c r (now (rows .exit)) (now (marks .exit)) ⌝ }
-{
-    let flow = reader::flow(words);
-    match flow {
-        Flow::Gone => {
-            rows::put_hidden(rows, marks, c.count);
-            stacking::past_hidden(c)
-        }
-        Flow::Out => {
-            let shown = c.shown;
-            let edges = stacking::edges_of(f);
-            let line = stacking::line_of(f, c);
-            rows::put_aside(rows, marks, edges, line, shown);
-            stacking::past_aside(c)
-        }
-        Flow::In => {
-            let plan = stacking::item::plan_at(words, numbers, base, f);
-            let q = plan.input;
-            let i = plan.footing;
-            let o = compute_child_layout(words, numbers, rows, marks, edits, base, depth, q);
-            let p = stacking::place_of(f, c, i, o);
-            let shown = c.shown;
-            rows::put_place(rows, marks, p, shown);
-            stacking::stepped_past(f, c, i, o)
-        }
-    }
+    let d = heights::finish_at(words, numbers, base, q, f, c);
+    let o = d.output;
+    let shift = d.shift;
+    rows::put_head(rows, marks, q, o);
+    align(&words[4..], &mut rows[16..], &marks[2..], shift);
+    o
 }
 
 // What a child is answered: its old answer where that stands, else a new one.

@@ -13,7 +13,7 @@ use Rattle.steps.specs.Results.{Reply, layoutResult, relayoutResult}
 use Rattle.steps.specs.declared.Answer.{Answer}
 use Rattle.steps.specs.declared.Answer.the-variants.{Done}
 use Rattle.steps.specs.declared.Question.{Question}
-use Rattle.day.specs.Sheet.{Sheet, sheet, numberEdit, wordEdit}
+use Rattle.sheet.specs.Sheet.{Sheet, sheet, numberEdit, wordEdit}
 use Rattle.day.specs.declared.Ask.{Ask}
 use Rattle.day.specs.declared.Ask.the-variants.{Width, Height, Parent, Available}
 use Rattle.day.specs.declared.Event.{Event}

@@ -1,31 +1,19 @@
 // What a display did in a day, one event at a time: an edit of its page or of its question, a relayout, a layout.
 ghost use mathlib.Core.Path.{_≡_};
 ghost use mathlib.Core.List.{List};
-ghost use lib.Ieee.{Float};
 ghost use Prim.Native.Nat.{ℕ};
-ghost use Rattle.day.specs.Sheet.{sheet, noted, numberEdit, wordEdit};
 ghost use Rattle.day.specs.Day.{withNumbers, asked, countAfter, doneTurn, day, left, layoutEvent, relayoutEvent, eventResult};
 use length::AvailableSpace;
 use lent::smaller;
+use sheet::NodeNumber;
+use sheet::NodeWord;
+use sheet::edit_number;
+use sheet::edit_word;
 use steps::Answer;
 use steps::Question;
 use steps::number_of;
 use util::OptionF32;
 use util::OptionSize;
-
-// A number of a node.
-pub struct NodeNumber {
-    pub node: u32,
-    pub field: u32,
-    pub value: f32,
-}
-
-// A word of a node.
-pub struct NodeWord {
-    pub node: u32,
-    pub word: u32,
-    pub bits: u32,
-}
 
 // A number of the question.
 pub enum Ask {
@@ -53,61 +41,6 @@ pub struct State {
 pub struct Turn {
     pub answer: Answer,
     pub state: State,
-}
-
-// One more edit in the list, if there is room. The first 65 say all.
-pub fn note(node: u32, count: usize, list: &mut [u32]) -> usize
-    ensures { λ r. ⌜ noted node (now (list .entry)) count ≡ (now (list .exit), r) ⌝ }
-{
-    if list.len() <= count {
-        return count;
-    }
-    list[count] = node;
-    count + 1
-}
-
-// A number of a node, if there is such a number.
-fn edit_number(
-    x: NodeNumber,
-    count: usize,
-    words: &[u32],
-    numbers: &mut [f32],
-    list: &mut [u32],
-) -> usize
-    ensures { λ r. ⌜ sheet (now (words .entry)) (now (numbers .exit)) (now (list .exit)) r ≡ numberEdit x (sheet (now (words .entry)) (now (numbers .entry)) (now (list .entry)) count) ⌝ }
-{
-    let n = words.len() / 4;
-    let node = x.node as usize;
-    let field = x.field as usize;
-    if n <= node {
-        return count;
-    }
-    if numbers.len() / n <= field {
-        return count;
-    }
-    let at = style::number_place(n, node, field);
-    numbers[at] = x.value;
-    note(x.node, count, list)
-}
-
-// Word 1, 2 or 3 of a node, if there is such a node.
-fn edit_word(x: NodeWord, count: usize, words: &mut [u32], list: &mut [u32]) -> usize
-    ensures { λ r. ⌜ ((xs : List Float) → sheet (now (words .exit)) xs (now (list .exit)) r ≡ wordEdit x (sheet (now (words .entry)) xs (now (list .entry)) count)) ⌝ }
-{
-    let n = words.len() / 4;
-    let node = x.node as usize;
-    let word = x.word as usize;
-    if n <= node {
-        return count;
-    }
-    if word == 0 {
-        return count;
-    }
-    if 3 < word {
-        return count;
-    }
-    words[node * 4 + word] = x.bits;
-    note(x.node, count, list)
 }
 
 // The question with other numbers. The three flags are no numbers.

@@ -15,11 +15,11 @@ use Rattle.style.specs.Planes.{place-node}
 use Rattle.steps.specs.Page.{nodesIn, named}
 use Rattle.laws.specs.Tables.{SameAt, SameShape}
 use Rattle.chains.specs.Pages.{changed}
-use Rattle.day.specs.Sheet.{Sheet, sheet, noted, editOf, hasNumber, hasWord, numberEdit, wordEdit}
+use Rattle.sheet.specs.Sheet.{Sheet, sheet, noted, editOf, hasNumber, hasWord, numberEdit, wordEdit}
 use Rattle.day.specs.Day.{editsOf}
-use Rattle.day.specs.declared.NodeNumber.{NodeNumber}
-use Rattle.day.specs.declared.NodeWord.{NodeWord}
-use Rattle.day.proofs.EventLaws.{full, room}
+use Rattle.sheet.specs.declared.NodeNumber.{NodeNumber}
+use Rattle.sheet.specs.declared.NodeWord.{NodeWord}
+use Rattle.sheet.proofs.SheetLaws.{full, room}
 
 -- node i was edited: the shape stays, every other node of tables that fit stays, and the list takes i
 pub record Edited (i : ℕ) (s s′ : Sheet) : Type 0 where

@@ -23,7 +23,7 @@ use Rattle.outcomes.specs.Left.{LeftBy}
 use Rattle.outcomes.specs.Layout.{layout-leaves}
 use Rattle.outcomes.specs.Relayout.{relayout-leaves}
 use Rattle.records.proofs.Refusals.{No}
-use Rattle.day.specs.Sheet.{Sheet, sheet}
+use Rattle.sheet.specs.Sheet.{Sheet, sheet}
 use Rattle.day.specs.Day.{Day, Outcome, editsOf, layoutOf, relayoutOf, layoutEvent, relayoutEvent, editEvent, callEvent, countAfter, eventResult, dayAfter}
 use Rattle.day.specs.declared.Event.{Event}
 use Rattle.day.specs.declared.Event.the-variants as event

@@ -20,7 +20,7 @@ use Rattle.laws.specs.Answers.{relayout-accepted}
 use Rattle.claims.specs.Claims.{relayout-is-layout}
 use Rattle.claims.specs.Unread.{rows-unread}
 use Rattle.records.proofs.Refusals.{No}
-use Rattle.day.specs.Sheet.{Sheet, sheet, numberEdit, wordEdit}
+use Rattle.sheet.specs.Sheet.{Sheet, sheet, numberEdit, wordEdit}
 use Rattle.day.specs.Day.{Day, Outcome, editsOf, layoutOf, relayoutOf, layoutEvent, relayoutEvent, editEvent, callEvent, asked, eventResult, dayAfter}
 use Rattle.day.specs.declared.Event.{Event}
 use Rattle.day.specs.declared.Event.the-variants as event

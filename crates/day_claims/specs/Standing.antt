@@ -22,7 +22,7 @@ use Rattle.steps.specs.declared.Tested.{Tested}
 use Rattle.steps.specs.declared.Tested.the-variants.{Pass, Refuse}
 use Rattle.laws.specs.Tables.{SameAt, SameShape, Named, Calls, laid-out, laid-again}
 use Rattle.laws.specs.Answers.{layout-accepted, relayout-accepted, relayout-layout}
-use Rattle.day.specs.Sheet.{Sheet, sheet, noted, editOf, hasNumber, hasWord, numberEdit, wordEdit}
+use Rattle.sheet.specs.Sheet.{Sheet, sheet, noted, editOf, hasNumber, hasWord, numberEdit, wordEdit}
 use Rattle.day.specs.Day.{Day, Outcome, editsOf, layoutOf, relayoutOf, layoutEvent, relayoutEvent, editEvent, callEvent, countAfter, asked, eventResult, dayAfter}
 use Rattle.day.specs.declared.Event.{Event}
 use Rattle.day.specs.declared.Event.the-variants as event

@@ -14,12 +14,8 @@ use Rattle.profiled.specs.Public.{ProfileReplied}
 use Rattle.profiled.specs.declared.ProfileAnswer.{ProfileAnswer}
 use Rattle.profiled.specs.declared.ProfileSize.{ProfileSize}
 use Rattle.profiled.specs.declared.ProfileSize.the-variants as size
-use Rattle.face.specs.Answered.{Halves}
+use Rattle.asked.specs.Halves.{Halves}
 use Rattle.face.specs.AsProfile.{ProfileAnswered, SizedProfile}
-
--- one case of an answer
-pub of-profile : {a b : ProfileAnswer} {p : ℕ × ℕ} {r : ℕ} → a ≡ b → profilePaper b ≡ p → Halves p r → Halves (profilePaper a) r
-of-profile {a} {b} {p} {r} e f h = subst (λ (q : ℕ × ℕ). Halves q r) (sym (ap profilePaper e ∙ f)) h
 
 -- the answer packed, the memory as it was left
 pub profiled : {w v : ProfileReply} {a : ProfileAnswer} {r : ℕ} {rows : List Float} {marks : List ℕ} {pairs : List ℕ} {triples : List Float} → w ≡ v → ProfileReplied w a rows marks pairs triples → Halves (profilePaper a) r → ProfileAnswered v r rows marks pairs triples

@@ -23,7 +23,8 @@ use Rattle.scroll.specs.Scroll.{scrollPaper}
 use Rattle.scroll.specs.declared.ScrollAnswer.{ScrollAnswer}
 use Rattle.coarse.specs.Coarse.{Panel, Coarsened, coarsePaper}
 use Rattle.coarse.specs.declared.CoarseAnswer.{CoarseAnswer}
-use Rattle.face.specs.Answered.{Halves, Answered, Sized, IndexAnswered, Scrolled, foundIn, CoarseAnswered}
+use Rattle.asked.specs.Halves.{Halves}
+use Rattle.face.specs.Answered.{Answered, Sized, IndexAnswered, Scrolled, foundIn, CoarseAnswered}
 
 -- the answer packed, the memory as it was left
 pub answered : {w v : Reply} {a : Answer} {r : ℕ} {rows : List Float} {marks : List ℕ} {pairs : List ℕ} {triples : List Float} → w ≡ v → Replied w a rows marks pairs triples → Halves (paper a) r → Answered v r rows marks pairs triples
@@ -51,10 +52,6 @@ pub refused : {v : SizeAnswer} {a : Answer} {r : ℕ} → v ≡ size.Refused a �
 unfolding sizePaper axes
 refused {v} {a} {r} e h = subst (λ (u : SizeAnswer). Sized u r (zeroF ∷ zeroF ∷ [])) (sym e) record { answer-is = h; size-is = refl }
 
--- one case of an index answer
-pub of-index : {a b : IndexAnswer} {p : ℕ × ℕ} {r : ℕ} → a ≡ b → indexPaper b ≡ p → Halves p r → Halves (indexPaper a) r
-of-index {a} {b} {p} {r} e f h = subst (λ (q : ℕ × ℕ). Halves q r) (sym (ap indexPaper e ∙ f)) h
-
 -- the index answer packed, the slices as they were left
 pub indexed : {w : Index} {a : IndexAnswer} {r : ℕ} {ts bs ls : List Float} → Indexed w a ts bs ls → Halves (indexPaper a) r → IndexAnswered w r ts bs ls
 indexed {w} {a} {r} {ts} {bs} {ls} s h =
@@ -64,10 +61,6 @@ indexed {w} {a} {r} {ts} {bs} {ls} s h =
 pub scrolled : {a b : ScrollAnswer} {p : ℕ × ℕ} {r : ℕ} {lent found : List ℕ} → a ≡ b → scrollPaper b ≡ p → found ≡ foundIn b lent → Halves p r → Scrolled a lent r found
 scrolled {a} {b} {p} {r} {lent} {found} e f g h =
     subst (λ (x : ScrollAnswer). Scrolled x lent r found) (sym e) record { answer-is = subst (λ (q : ℕ × ℕ). Halves q r) (sym f) h; found-is = g }
-
--- one case of a coarse answer
-pub of-coarse : {a b : CoarseAnswer} {p : ℕ × ℕ} {r : ℕ} → a ≡ b → coarsePaper b ≡ p → Halves p r → Halves (coarsePaper a) r
-of-coarse {a} {b} {p} {r} e f h = subst (λ (q : ℕ × ℕ). Halves q r) (sym (ap coarsePaper e ∙ f)) h
 
 -- the coarse answer packed, the output as it was left
 pub coarsened : {w : Panel} {a : CoarseAnswer} {r : ℕ} {out : List ℤ} → Coarsened w a out → Halves (coarsePaper a) r → CoarseAnswered w r out

@@ -1,10 +1,10 @@
 -- What the calls answer to C: a word of two halves, and the memory that was lent.
 use mathlib.Core.Path.{_≡_}
 use mathlib.Core.List.{List, [], _∷_}
-use Prim.Native.Nat.{ℕ, _/_, _%_, _^_}
-use native.Mathlib.Omega.{arith}
+use Prim.Native.Nat.{ℕ}
 use lib.IntN.{ℤ}
 use lib.Ieee.{Float}
+use Rattle.asked.specs.Halves.{Halves}
 use Rattle.steps.specs.Noes.{paper}
 use Rattle.steps.specs.Results.{Reply, sizePaper}
 use Rattle.steps.specs.declared.SizeAnswer.{SizeAnswer}
@@ -13,15 +13,6 @@ use Rattle.scroll.specs.Scroll.{scrollPaper}
 use Rattle.coarse.specs.Coarse.{Panel, coarsePaper}
 use Rattle.scroll.specs.declared.ScrollAnswer.{ScrollAnswer}
 use Rattle.scroll.specs.declared.ScrollAnswer.the-variants.{First, Nothing, NotFinite}
-
--- the upper half is 01's number of an answer, the lower half its place
-pub record Halves (p : ℕ × ℕ) (r : ℕ) : Type 0 where
-  pub number-is : r / 2 ^ 32 ≡ p .0
-  pub place-is : r % 2 ^ 32 ≡ p .1
-
--- the halves leave no choice
-pub one-word : (p : ℕ × ℕ) (r s : ℕ) → Halves p r → Halves p s → r ≡ s
-one-word p r s h k = omega (arith, h .number-is, h .place-is, k .number-is, k .place-is)
 
 -- a layout or a relayout: the answer and every lent word
 pub record Answered (want : Reply) (r : ℕ) (rows : List Float) (marks : List ℕ) (pairs : List ℕ) (triples : List Float) : Type 0 where

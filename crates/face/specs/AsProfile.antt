@@ -8,7 +8,8 @@ use Rattle.steps.specs.Results.{Reply}
 use Rattle.steps.specs.declared.SizeAnswer.{SizeAnswer}
 use Rattle.profiled.specs.Profiled.{ProfileReply, profilePaper, profileSizePaper}
 use Rattle.profiled.specs.declared.ProfileSize.{ProfileSize}
-use Rattle.face.specs.Answered.{Halves, Answered, Sized}
+use Rattle.asked.specs.Halves.{Halves}
+use Rattle.face.specs.Answered.{Answered, Sized}
 
 -- a layout or a relayout asked as profile: the answer and every lent word
 pub record ProfileAnswered (want : ProfileReply) (r : ℕ) (rows : List Float) (marks : List ℕ) (pairs : List ℕ) (triples : List Float) : Type 0 where

@@ -8,15 +8,15 @@ use lib.Ieee.{Float}
 use Rattle.geometry.specs.Geometry.{zeroF}
 use Rattle.length.specs.declared.AvailableSpace.{AvailableSpace}
 use Rattle.style.specs.Style.{wordAt}
-use Rattle.tree.specs.Tree.{Tree, Forest, none, more, countT, depthT, depthF}
-use Rattle.tree.proofs.Laws.{depthF-more}
+use Rattle.tree.specs.Tree.{Tree, Forest, node, none, more, countT, depthT, depthF}
+use Rattle.tree.proofs.Laws.{depthT-node, depthF-more}
 use Rattle.steps.specs.Stack.{startOf}
 use Rattle.steps.specs.Page.{Site}
 use Rattle.steps.specs.declared.Frame.{Frame}
 use Rattle.steps.specs.declared.Cursor.{Cursor}
 use Rattle.measure.specs.Dry.{widthF, widened, sizeF, pastT}
 use Rattle.measure.specs.Contract.{SitesT, SitesF}
-use Rattle.measure.proofs.Sites.{Left, child-of, left-begin, left-none, left-some}
+use Rattle.measure.proofs.Sites.{Left, child-of, left-begin, left-below, left-none, left-some}
 use Rattle.measure.proofs.DryClauses.{widthF-none, widthF-more, sizeF-none, sizeF-more, counts-more}
 
 -- a loop that carries c over the siblings: `all` is what the whole forest gives, `one` what one tree does
@@ -81,20 +81,46 @@ pub wide-end : (ws : List ℕ) (xs : List Float) (b : ℕ) (a : AvailableSpace) 
 wide-end ws xs b a ts m i = end (λ us n. widthF us a n) (λ n t. widened t a n) (widthF-none a) (λ t us n. widthF-more t us a n) ws xs b ts zeroF m i
 
 -- ---- step J
-abbrev pub StackRest : List ℕ → List Float → ℕ → Frame → Forest Site → Cursor → ℕ → Type 0
+abbrev StackRest : List ℕ → List Float → ℕ → Frame → Forest Site → Cursor → ℕ → Type 0
 StackRest ws xs b f ts c i = Rest (λ us d. sizeF us f d) (λ d t. pastT f d t) (sizeF-none f) (λ t us d. sizeF-more t us f d) ws xs b ts (startOf f) c i
 
-abbrev pub StackTurn : List ℕ → List Float → ℕ → Frame → Forest Site → Cursor → ℕ → ℕ → Type 0
+abbrev StackTurn : List ℕ → List Float → ℕ → Frame → Forest Site → Cursor → ℕ → ℕ → Type 0
 StackTurn ws xs b f ts c i e = Turn (λ us d. sizeF us f d) (λ d t. pastT f d t) (sizeF-none f) (λ t us d. sizeF-more t us f d) ws xs b ts (startOf f) c i e
 
-pub stack-begin : (ws : List ℕ) (xs : List Float) (b : ℕ) (f : Frame) (c : Cursor) → c ≡ startOf f → (ts : Forest Site) → SitesF ws xs b ts → StackRest ws xs b f ts c 0
-stack-begin ws xs b f c e = begin (λ us d. sizeF us f d) (λ d t. pastT f d t) (sizeF-none f) (λ t us d. sizeF-more t us f d) ws xs b (startOf f) c e
+-- of a node's children, from the first on
+abbrev pub StackRestT : List ℕ → List Float → ℕ → Frame → Tree Site → Cursor → ℕ → Type 0
+StackRestT ws xs b f (node l ks) c i = StackRest ws xs b f ks c i
 
-pub stack-turn : (ws : List ℕ) (xs : List Float) (b : ℕ) (f : Frame) (ts : Forest Site) (c : Cursor) (i e : ℕ) → e ≡ i + wordAt ws i 0 → StackRest ws xs b f ts c i → 4 * i < length ws → StackTurn ws xs b f ts c i e
-stack-turn ws xs b f ts c i e = turn (λ us d. sizeF us f d) (λ d t. pastT f d t) (sizeF-none f) (λ t us d. sizeF-more t us f d) ws xs b ts (startOf f) c i e
+pub stack-begin : (ws : List ℕ) (xs : List Float) (b : ℕ) (f : Frame) (c : Cursor) → c ≡ startOf f → (t : Tree Site) → SitesT ws xs b t → StackRestT ws xs b f t c 1
+stack-begin ws xs b f c e (node l ks) h = record { left = ks; here = left-below ws xs b l ks h; shallow = λ d k. k; same = rw e refl }
 
-pub stack-end : (ws : List ℕ) (xs : List Float) (b : ℕ) (f : Frame) (ts : Forest Site) (c : Cursor) (i : ℕ) → StackRest ws xs b f ts c i → length ws ≤ 4 * i → c ≡ sizeF ts f (startOf f)
-stack-end ws xs b f ts c i = end (λ us d. sizeF us f d) (λ d t. pastT f d t) (sizeF-none f) (λ t us d. sizeF-more t us f d) ws xs b ts (startOf f) c i
+pub record StackTurnT (ws : List ℕ) (xs : List Float) (b : ℕ) (f : Frame) (t : Tree Site) (c : Cursor) (a e : ℕ) : Type 0 where
+  pub some : a < e
+  pub words-in : 4 * e ≤ length ws
+  pub tree : Tree Site
+  pub sites : SitesT (take (4 * e - 4 * a) (drop (4 * a) ws)) xs (b + a) tree
+  pub shallow : (d : ℕ) → depthT t ≤ d → depthT tree ≤ d - 1
+  pub count-is : a + countT tree ≡ e
+  pub next : (c′ : Cursor) → c′ ≡ pastT f c tree → StackRestT ws xs b f t c′ e
+
+pub stack-turn : (ws : List ℕ) (xs : List Float) (b : ℕ) (f : Frame) (t : Tree Site) (c : Cursor) (i e : ℕ) → e ≡ i + wordAt ws i 0 → StackRestT ws xs b f t c i → 4 * i < length ws → StackTurnT ws xs b f t c i e
+stack-turn ws xs b f (node l ks) c i e ed s lt =
+    let k : StackTurn ws xs b f ks c i e = turn (λ us d. sizeF us f d) (λ d t. pastT f d t) (sizeF-none f) (λ t us d. sizeF-more t us f d) ws xs b ks (startOf f) c i e ed s lt in
+    record {
+      some = k .some;
+      words-in = k .words-in;
+      tree = k .tree;
+      sites = k .sites;
+      shallow = λ d hd. let z = simp depthT-node at hd in k .shallow (d - 1) (omega arith);
+      count-is = k .count-is;
+      next = k .next;
+    }
+
+abbrev pub StackEndT : Frame → Tree Site → Cursor → Type 0
+StackEndT f (node l ks) c = c ≡ sizeF ks f (startOf f)
+
+pub stack-end : (ws : List ℕ) (xs : List Float) (b : ℕ) (f : Frame) (t : Tree Site) (c : Cursor) (i : ℕ) → StackRestT ws xs b f t c i → length ws ≤ 4 * i → StackEndT f t c
+stack-end ws xs b f (node l ks) c i = end (λ us d. sizeF us f d) (λ d t. pastT f d t) (sizeF-none f) (λ t us d. sizeF-more t us f d) ws xs b ks (startOf f) c i
 
 -- the counts of the cursor: none at the start, one more past each child
 pub past-counts : (f : Frame) (c d : Cursor) (t : Tree Site) → d ≡ pastT f c t → (d .count ≡ c .count + 1) × (d .shown .0 ≤ c .shown .0 + 1)

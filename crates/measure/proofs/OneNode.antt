@@ -38,9 +38,14 @@ use Rattle.steps.specs.declared.Finished.{Finished}
 use Rattle.steps.specs.declared.Frame.{Frame}
 use Rattle.steps.specs.declared.Cursor.{Cursor}
 use Rattle.measure.specs.Dry.{widthBy, widthT, widthF, widenBy, widened, sizeT, sizeF, pastBy, pastT, foundBy, foundT}
-use Rattle.measure.specs.Contract.{SitesT, Width, Widened, Widest, Measured, Passed, Stacked, Found}
+use Rattle.measure.specs.Contract.{SitesT, Width, Widened, Widest, Measured, Found}
 use Rattle.measure.proofs.Sites.{root-style, kids-of}
 use Rattle.measure.proofs.DryClauses.{widthT-leaf, widthT-block, sizeT-leaf, sizeT-block}
+use Rattle.measure.proofs.Loops.{StackEndT}
+
+-- the cursor past one child
+abbrev pub Passed : List ℕ → List Float → ℕ → Frame → Cursor → Cursor → Type 0
+Passed ws xs b f c r = (t : Tree Site) → SitesT ws xs b t → r ≡ pastT f c t
 
 module _ (ws : List ℕ) (xs : List Float) (b : ℕ) (s : Style) (hs : s ≡ styleAt ws 0 xs b) where
   style-of : (l : Site) (ks : Forest Site) → SitesT ws xs b (node l ks) → s ≡ l .style
@@ -99,11 +104,11 @@ module _ (ws : List ℕ) (xs : List Float) (b : ℕ) (s : Style) (hs : s ≡ sty
   pub leaf-measured : (q : LayoutInput) (found : Float) (r : LayoutOutput) → isLeaf (s .kind) ≡ true → r ≡ leafOutput (s .measure) q → Measured ws xs b q found r
   leaf-measured q found r e hr (node l ks) h = hr ∙ ap (λ (z : Style). leafOutput (z .measure) q) (style-of l ks h) ∙ sym (sizeT-leaf l ks q found (kind-of l ks true h e))
 
-  pub block-measured : (q : LayoutInput) (found : Float) (f : Frame) (end : Cursor) (d : Finished) → isLeaf (s .kind) ≡ false → f ≡ frameOf s q found → Stacked (take (length ws - 4) (drop 4 ws)) xs (b + 1) f end
+  pub block-measured : (q : LayoutInput) (found : Float) (f : Frame) (end : Cursor) (d : Finished) → isLeaf (s .kind) ≡ false → f ≡ frameOf s q found → ((t : Tree Site) → SitesT ws xs b t → StackEndT f t end)
       → d ≡ finished s q f end → Measured ws xs b q found (d .output)
   block-measured q found f end d e hf he hd (node l ks) h =
       let st = style-of l ks h in
-      let ee : end ≡ sizeF ks f (startOf f) = he ks (kids-of ws xs b l ks h) in
+      let ee : end ≡ sizeF ks f (startOf f) = he (node l ks) h in
       ap (λ (z : Finished). z .output) hd ∙ ap (λ (z : Cursor). finished s q f z .output) ee ∙ ap (λ (z : Frame). finished s q z (sizeF ks z (startOf z)) .output) hf
       ∙ ap (λ (z : Style). finished z q (frameOf z q found) (sizeF ks (frameOf z q found) (startOf (frameOf z q found))) .output) st
       ∙ sym (sizeT-block l ks q found (kind-of l ks false h e))

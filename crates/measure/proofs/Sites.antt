@@ -91,6 +91,12 @@ pub record Left (ws : List ℕ) (xs : List Float) (b a : ℕ) (left : Forest Sit
 pub left-begin : (ws : List ℕ) (xs : List Float) (b : ℕ) (ts : Forest Site) → SitesF ws xs b ts → Left ws xs b 0 ts
 left-begin ws xs b ts h = record { words-long = h .words-long ∙ omega arith; sites-left = h .sites-are }
 
+-- below a tree's own node
+pub left-below : (ws : List ℕ) (xs : List Float) (b : ℕ) (l : Site) (ks : Forest Site) → SitesT ws xs b (node l ks) → Left ws xs b 1 ks
+left-below ws xs b l ks h =
+    let one : countT (node l ks) ≡ suc (countF ks) = countT-node l ks in
+    record { words-long = h .words-long ∙ omega arith; sites-left = kids-sites (siteAt ws xs [] b) 0 l ks (h .sites-are) }
+
 pub left-none : (ws : List ℕ) (xs : List Float) (b a : ℕ) (t : Tree Site) (us : Forest Site) → Left ws xs b a (more t us) → length ws ≤ 4 * a → ⊥
 left-none ws xs b a (node l ks) us h le =
     let n : countF (more (node l ks) us) ≡ suc (countF ks) + countF us = countF-more (node l ks) us ∙ ap (λ (k : ℕ). k + countF us) (countT-node l ks) in

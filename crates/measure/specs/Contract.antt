@@ -11,16 +11,13 @@ use Rattle.length.specs.declared.AvailableSpace.{AvailableSpace}
 use Rattle.style.specs.Style.{planeOf}
 use Rattle.tree.specs.Tree.{Tree, Forest, countT, countF, depthT, depthF, flatT, flatF}
 use Rattle.tree.specs.Table.{entryOf, from}
-use Rattle.steps.specs.Stack.{startOf}
 use Rattle.steps.specs.Page.{Site, siteAt}
 use Rattle.steps.specs.SizeQuestion.{stepG, widthKnown, sizeOf}
 use Rattle.steps.specs.declared.ProbeInput.{ProbeInput}
 use Rattle.steps.specs.declared.LayoutInput.{LayoutInput}
 use Rattle.steps.specs.declared.LayoutOutput.{LayoutOutput}
 use Rattle.steps.specs.declared.RequestedAxis.{RequestedAxis}
-use Rattle.steps.specs.declared.Frame.{Frame}
-use Rattle.steps.specs.declared.Cursor.{Cursor}
-use Rattle.measure.specs.Dry.{widthT, widthF, widened, sizeT, sizeF, pastT, foundT, restT}
+use Rattle.measure.specs.Dry.{widthT, widthF, widened, sizeT, foundT, restT}
 
 -- these words are the tree's, whose first node has the number b
 pub record SitesT (ws : List ℕ) (xs : List Float) (b : ℕ) (t : Tree Site) : Type 0 where
@@ -57,12 +54,6 @@ Widest ws xs b a r = (ts : Forest Site) → SitesF ws xs b ts → r ≡ widthF t
 
 abbrev pub Measured : List ℕ → List Float → ℕ → LayoutInput → Float → LayoutOutput → Type 0
 Measured ws xs b q found r = (t : Tree Site) → SitesT ws xs b t → r ≡ sizeT t q found
-
-abbrev pub Passed : List ℕ → List Float → ℕ → Frame → Cursor → Cursor → Type 0
-Passed ws xs b f c r = (t : Tree Site) → SitesT ws xs b t → r ≡ pastT f c t
-
-abbrev pub Stacked : List ℕ → List Float → ℕ → Frame → Cursor → Type 0
-Stacked ws xs b f r = (ts : Forest Site) → SitesF ws xs b ts → r ≡ sizeF ts f (startOf f)
 
 -- the page's own steps
 abbrev pub Found : List ℕ → List Float → LayoutInput → OptionF32 → Float → Type 0

@@ -1,16 +1,13 @@
 // The size question: what a page would measure. It is lent no rows, keeps nothing and writes nothing.
 ghost use mathlib.Core.Path.{_≡_};
-ghost use Rattle.steps.specs.Stack.{Counts};
 ghost use Rattle.steps.specs.SizeQuestion.{axes};
 ghost use Rattle.steps.specs.Question.{rootInput};
 ghost use Rattle.steps.specs.Results.{sizeReply, sizeResult};
 ghost use Rattle.measure.specs.Public.{SizeReplied};
-ghost use Rattle.measure.specs.Contract.{IsTree, IsForest, Width, Widened, Widest, Measured, Passed, Stacked, Found, Whole, Rest, KnownWidth, SizeOf};
+ghost use Rattle.measure.specs.Contract.{IsTree, IsForest, Width, Widened, Widest, Measured, Found, Whole, Rest, KnownWidth, SizeOf};
 use geometry::Size;
 use length::AvailableSpace;
 use steps::Answer;
-use steps::Cursor;
-use steps::Frame;
 use steps::LayoutInput;
 use steps::LayoutOutput;
 use steps::ProbeInput;
@@ -88,7 +85,7 @@ fn widest(words: &[u32], numbers: &[f32], base: usize, depth: usize, a: Availabl
     most
 }
 
-// One container of the final pass: its answer alone.
+// One container of the final pass: its answer alone. Frame and cursor stand here alone, as in crate compute.
 fn measured(
     words: &[u32],
     numbers: &[f32],
@@ -104,46 +101,32 @@ fn measured(
         return heights::leaf_at(words, numbers, base, q);
     }
     let f = frames::frame_at(words, numbers, base, q, found);
-    let end = stacked(&words[4..], numbers, base + 1, depth - 1, f);
-    let d = heights::finish_at(words, numbers, base, q, f, end);
-    d.output
-}
-
-// Step J: where the stack of the children ends.
-fn stacked(words: &[u32], numbers: &[f32], base: usize, depth: usize, f: Frame) -> Cursor
-    requires { ⌜ IsForest (now words) (now numbers) base depth ⌝ }
-    ensures { λ r. ⌜ Stacked (now (words .entry)) (now (numbers .entry)) base f r ⌝ }
-{
     let mut c = stacking::start_of(f);
-    let mut i = 0usize;
+    let mut i = 1usize;
     while 4 * i < words.len() {
-        let e = i + style::word(words, i, 0) as usize;
+        let e = i + style::word_in(words, i, 0) as usize;
         let i4 = 4 * i;
         let e4 = 4 * e;
-        c = passed(&words[i4..e4], numbers, base + i, depth, f, c);
+        let flow = reader::flow(&words[i4..e4]);
+        match flow {
+            Flow::Gone => {
+                c = stacking::past_hidden(c);
+            }
+            Flow::Out => {
+                c = stacking::past_aside(c);
+            }
+            Flow::In => {
+                let plan = stacking::item::plan_at(&words[i4..e4], numbers, base + i, f);
+                let ask = plan.input;
+                let g = plan.footing;
+                let o = measured(&words[i4..e4], numbers, base + i, depth - 1, ask, 0.0);
+                c = stacking::stepped_past(f, c, g, o);
+            }
+        }
         i = e;
     }
-    c
-}
-
-// One child of the stack.
-fn passed(words: &[u32], numbers: &[f32], base: usize, depth: usize, f: Frame, c: Cursor) -> Cursor
-    requires tables { ⌜ IsTree (now words) (now numbers) base depth ⌝ }
-    requires counts { ⌜ Counts c ⌝ }
-    ensures { λ r. ⌜ Passed (now (words .entry)) (now (numbers .entry)) base f c r ⌝ }
-{
-    let flow = reader::flow(words);
-    match flow {
-        Flow::Gone => stacking::past_hidden(c),
-        Flow::Out => stacking::past_aside(c),
-        Flow::In => {
-            let plan = stacking::item::plan_at(words, numbers, base, f);
-            let q = plan.input;
-            let i = plan.footing;
-            let o = measured(words, numbers, base, depth, q, 0.0);
-            stacking::stepped_past(f, c, i, o)
-        }
-    }
+    let d = heights::finish_at(words, numbers, base, q, f, c);
+    d.output
 }
 
 fn axes(width: f32, height: f32) -> Size

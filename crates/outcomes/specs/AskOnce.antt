@@ -46,7 +46,7 @@ use Rattle.tables.proofs.Exactly.{layout-exactly}
 use Rattle.laws.specs.AskOnce.{size-is-laid, root-laid}
 use Rattle.layout.specs.Public.{Replied}
 use Rattle.measure.specs.Public.{SizeReplied}
-use Rattle.face.specs.Question.{plainQuestion, axisOf}
+use Rattle.asked.specs.Question.{plainQuestion, axisOf}
 use Rattle.face.specs.Answered as face
 use Rattle.face.specs.Answered.{Answered}
 use Rattle.outcomes.specs.Layout.{layout-gives}

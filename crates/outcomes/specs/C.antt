@@ -20,7 +20,8 @@ use Rattle.steps.specs.declared.Tested.the-variants.{Pass}
 use Rattle.tables.specs.Refusals.{SizeDue}
 use Rattle.tables.proofs.Exactly.{Exactly}
 use Rattle.layout.specs.Public.{Replied}
-use Rattle.face.specs.Answered.{Halves, Answered}
+use Rattle.asked.specs.Halves.{Halves}
+use Rattle.face.specs.Answered.{Answered}
 use Rattle.face.specs.Answered as face
 use Rattle.outcomes.specs.Numbers.{paper-settles}
 use Rattle.outcomes.specs.Left.{LeftBy}

@@ -3,7 +3,7 @@ use mathlib.Core.Path.{_≡_, sym, _∙_, ap}
 use mathlib.Core.List.{List}
 use Prim.Native.Nat.{ℕ}
 use lib.Ieee.{Float}
-use Rattle.day.specs.Sheet.{sheet}
+use Rattle.sheet.specs.Sheet.{sheet}
 use Rattle.day.specs.Day.{Day, Outcome, left, eventResult}
 use Rattle.day.specs.declared.Event.{Event}
 use Rattle.day.specs.declared.Turn.{Turn}

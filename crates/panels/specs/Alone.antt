@@ -5,10 +5,10 @@ use mathlib.Core.List.{List, [], _∷_}
 use Prim.Native.Nat.{ℕ}
 use lib.Ieee.{Float}
 use Rattle.steps.specs.declared.Answer.{Answer}
-use Rattle.day.specs.Sheet.{Sheet, sheet, hasNumber, hasWord, editOf, numberEdit, wordEdit}
+use Rattle.sheet.specs.Sheet.{Sheet, sheet, hasNumber, hasWord, editOf, numberEdit, wordEdit}
 use Rattle.day.specs.Day.{Day, editEvent, callEvent, eventResult, dayAfter, answersOf}
-use Rattle.day.specs.declared.NodeNumber.{NodeNumber}
-use Rattle.day.specs.declared.NodeWord.{NodeWord}
+use Rattle.sheet.specs.declared.NodeNumber.{NodeNumber}
+use Rattle.sheet.specs.declared.NodeWord.{NodeWord}
 use Rattle.day.specs.declared.Event.{Event}
 use Rattle.day.specs.declared.Event.the-variants as event
 use Rattle.panels.specs.Panels.{seen, panelResult, Which, hall, kitchen, other, Panel, Panels, panelOf, dayOf, view, withList, together, PanelEvent, of, bothOf, panelsNext, panelsAfter, tableEdit, same, heard, own, answersTo}

@@ -5,7 +5,7 @@ use Prim.Native.Nat.{ℕ}
 use lib.Ieee.{Float}
 use Rattle.steps.specs.declared.Answer.{Answer}
 use Rattle.steps.specs.declared.Question.{Question}
-use Rattle.day.specs.Sheet.{Sheet, sheet, numberEdit, wordEdit}
+use Rattle.sheet.specs.Sheet.{Sheet, sheet, numberEdit, wordEdit}
 use Rattle.day.specs.Day.{Day, Outcome, day, eventResult}
 use Rattle.day.specs.declared.Event.{Event}
 use Rattle.day.specs.declared.Event.the-variants as event

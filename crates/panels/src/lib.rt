@@ -1,12 +1,12 @@
 // Two panels over one node table: an event of one of them. The other lends its list and nothing else.
 ghost use mathlib.Core.Path.{_≡_};
-ghost use Rattle.day.specs.Sheet.{sheet, numberEdit, wordEdit};
+ghost use Rattle.sheet.specs.Sheet.{sheet, numberEdit, wordEdit};
 ghost use Rattle.day.specs.Day.{day};
 ghost use Rattle.panels.specs.Panels.{listed, seen, panelLeft, panelResult};
 use day::Event;
-use day::NodeNumber;
-use day::NodeWord;
 use day::State;
+use sheet::NodeNumber;
+use sheet::NodeWord;
 use steps::Answer;
 
 // What an event answers, the state of its panel after it, and how many edits the other's list holds.
@@ -35,7 +35,7 @@ fn note_number(
     if numbers.len() / n <= field {
         return count;
     }
-    day::note(x.node, count, list)
+    sheet::note(x.node, count, list)
 }
 
 // The node of an edit of a word, if there is such a word.
@@ -54,7 +54,7 @@ fn note_word(x: NodeWord, count: usize, words: &[u32], numbers: &[f32], list: &m
     if 3 < word {
         return count;
     }
-    day::note(x.node, count, list)
+    sheet::note(x.node, count, list)
 }
 
 // What the other panel sees of an event: the node of an edit, in its list.

@@ -26,10 +26,10 @@ use Rattle.steps.proofs.Shape.{mute}
 use Rattle.tables.proofs.Passing.{then-pass-1, then-pass-2, if-pass, good-table}
 use Rattle.tables.proofs.GoodPage.{good-page, good-cells}
 use Rattle.laws.specs.Shape.{relaid-shape, fresh-shape}
-use Rattle.day.specs.Sheet.{Sheet, hasNumber, hasWord, editOf, numberEdit, wordEdit}
+use Rattle.sheet.specs.Sheet.{Sheet, hasNumber, hasWord, editOf, numberEdit, wordEdit}
 use Rattle.day.specs.Day.{Day, editsOf, layoutOf, relayoutOf, editEvent, callEvent, eventResult, dayAfter}
-use Rattle.day.specs.declared.NodeNumber.{NodeNumber}
-use Rattle.day.specs.declared.NodeWord.{NodeWord}
+use Rattle.sheet.specs.declared.NodeNumber.{NodeNumber}
+use Rattle.sheet.specs.declared.NodeWord.{NodeWord}
 use Rattle.day.specs.declared.Event.{Event}
 use Rattle.day.specs.declared.Event.the-variants as event
 use Rattle.panels.specs.Panels.{Which, Panels, PanelEvent, view, own, panelsAfter}

@@ -1,14 +1,20 @@
 -- What each member of the cycle does with one tree, in plain terms.
 use mathlib.Core.Path.{_≡_, refl, sym, ap, _∙_}
-use mathlib.Core.Bool.{Bool, true, false}
-use mathlib.Core.List.{List, _++_}
+use mathlib.Core.Bool.{Bool, true, false, cond, true≢false}
+use mathlib.Core.List.{List, [], _∷_, _++_}
+use mathlib.Core.Logic.{inl, inr}
 use Prim.Native.Nat.{ℕ, _+_, _-_, _/_}
 use native.Mathlib.Omega.{arith}
 use lib.ListN.{length, getD, take, drop}
 use lib.Ieee.{Float, nan}
 use borrow.Rule.Slice.PartMut.{putMid}
+use types.Run.{OneOf}
+use denote.Enum.Declared.{tagOf}
+use Rattle.steps.proofs.Want.{the-type}
 use Rattle.geometry.specs.Geometry.{zeroF}
 use Rattle.util.specs.Math.{larger}
+use Rattle.util.specs.Maybe.{isSome}
+use Rattle.util.specs.declared.OptionF32.{OptionF32}
 use Rattle.util.specs.declared.OptionF32.the-variants.{None, Some}
 use Rattle.util.specs.declared.OptionSize.{OptionSize}
 use Rattle.length.specs.declared.AvailableSpace.{AvailableSpace}
@@ -32,7 +38,7 @@ use Rattle.walks.specs.Tables.{oldNumbers, TabledT}
 use Rattle.walks.proofs.Parts.{tree-facts}
 use Rattle.walks.proofs.Edited.{edited-run}
 use Rattle.probing.specs.Passed.{passedRow, passedNumbers, passedWords}
-use Rattle.probing.specs.Contract.{Rows, RestCleared, Stands, AreT, kidsT, Widened, widenedBy, widenedT, ProbedT, AnewT, WidenedT, WidestF}
+use Rattle.probing.specs.Contract.{Rows, RestCleared, Stands, widthAtOnce, mostPast, AreT, kidsT, Widened, widenedBy, widenedT, ProbedT, AnewT, WidenedT, WidestF}
 use Rattle.probing.proofs.PassedRows.{passed-probed, staying-rows, staying-marks, all-cleared, rest-cleared}
 use Rattle.probing.proofs.Clauses.{probeT-known, probeT-below, asked-answer, asked-kids, anew-node, widenedT-is}
 
@@ -107,8 +113,12 @@ made-anew rs ms q l ks r w us e h =
     let root : rootT (node l ks) ≡ l = rootT-node l ks in
     (e ∙ sym (ap (λ (p : Probed). p .answer) (h .made) ∙ asked-answer l q w us), h .rows-are ∙ rw (kids, root), h .marks-are ∙ rw (kids, root))
 
+abbrev orElse : Float → OptionF32 → Float
+orElse x None = x
+orElse x (Some y) = y
+
 module _ (ws : List ℕ) (xs rs : List Float) (ms es : List ℕ) (b : ℕ) (q : ProbeInput) (s : Style) (hs : s ≡ styleAt ws 0 xs b) where
-  pub anew-leaf : (r : Float) (rs′ : List Float) (ms′ : List ℕ) → isLeaf (s .kind) ≡ true → RestCleared rs ms rs′ ms′ → r ≡ leafWidth (s .measure) (q .available) → AnewT ws xs rs ms es b q r rs′ ms′
+  anew-leaf : (r : Float) (rs′ : List Float) (ms′ : List ℕ) → isLeaf (s .kind) ≡ true → RestCleared rs ms rs′ ms′ → r ≡ leafWidth (s .measure) (q .available) → AnewT ws xs rs ms es b q r rs′ ms′
   anew-leaf r rs′ ms′ lf cl hr (node l ks) h =
       let k = tree-facts ws xs rs ms es b l ks h in
       let st = root-style ws xs rs ms es b s l ks h hs in
@@ -117,7 +127,7 @@ module _ (ws : List ℕ) (xs rs : List Float) (ms es : List ℕ) (b : ℕ) (q : 
       made-anew rs′ ms′ q l ks r (leafWidth (l .site .style .measure) (q .available)) (mapF cleared ks) (hr ∙ ap (λ (z : Style). leafWidth (z .measure) (q .available)) st)
       (record { made = probeT-leaf l ks q lf2; rows-are = c .0; marks-are = c .1 })
 
-  pub anew-known : (known : OptionSize) (w : Float) (rs′ : List Float) (ms′ : List ℕ) → isLeaf (s .kind) ≡ false → known ≡ probeKnown s q → known .width ≡ Some w → RestCleared rs ms rs′ ms′ → AnewT ws xs rs ms es b q w rs′ ms′
+  anew-known : (known : OptionSize) (w : Float) (rs′ : List Float) (ms′ : List ℕ) → isLeaf (s .kind) ≡ false → known ≡ probeKnown s q → known .width ≡ Some w → RestCleared rs ms rs′ ms′ → AnewT ws xs rs ms es b q w rs′ ms′
   anew-known known w rs′ ms′ lf hk kw cl (node l ks) h =
       let k = tree-facts ws xs rs ms es b l ks h in
       let st = root-style ws xs rs ms es b s l ks h hs in
@@ -126,7 +136,7 @@ module _ (ws : List ℕ) (xs rs : List Float) (ms es : List ℕ) (b : ℕ) (q : 
       let kn : probeKnown (l .site .style) q .width ≡ Some w = ap (λ (z : Style). probeKnown z q .width) (sym st) ∙ ap (λ (z : OptionSize). z .width) (sym hk) ∙ kw in
       made-anew rs′ ms′ q l ks w w (mapF cleared ks) refl (record { made = probeT-known l ks q w lf2 kn; rows-are = c .0; marks-are = c .1 })
 
-  pub anew-below : (known : OptionSize) (a : AvailableSpace) (most r : Float) (nr : List Float) (nm : List ℕ) → isLeaf (s .kind) ≡ false → known ≡ probeKnown s q → known .width ≡ None → a ≡ spaceIn s None (q .available)
+  anew-below : (known : OptionSize) (a : AvailableSpace) (most r : Float) (nr : List Float) (nm : List ℕ) → isLeaf (s .kind) ≡ false → known ≡ probeKnown s q → known .width ≡ None → a ≡ spaceIn s None (q .available)
       → WidestF (take (length ws - 4) (drop 4 ws)) xs (take (length rs - 16) (drop 16 rs)) (take (length ms - 2) (drop 2 ms)) es (b + 1) a most nr nm → r ≡ foundWidth s None most
       → AnewT ws xs rs ms es b q r (putMid 16 (length rs - 16) rs nr) (putMid 2 (length ms - 2) ms nm)
   anew-below known a most r nr nm lf hk kw ha hw hr (node l ks) h =
@@ -146,6 +156,28 @@ module _ (ws : List ℕ) (xs rs : List Float) (ms es : List ℕ) (b : ℕ) (q : 
         rows-are = e1 ∙ ap (λ (z : List Float). rowNumbers (l .old) ++ z) (g .1 .0 ∙ ap (λ (z : Widest). flatF passedNumbers (z .nodes)) ea);
         marks-are = e2 ∙ ap (λ (z : List ℕ). rowWords (l .old) ++ z) (g .1 .1 ∙ ap (λ (z : Widest). flatF passedWords (z .nodes)) ea);
       })
+
+  at-once-by : (v : Bool) → isLeaf (s .kind) ≡ v → widthAtOnce s q ≡ cond v (Some (leafWidth (s .measure) (q .available))) (probeKnown s q .width)
+  unfolding widthAtOnce
+  at-once-by v e = rw e
+
+  -- a width at once, and none
+  pub anew-at-once : (w : Float) (rs′ : List Float) (ms′ : List ℕ) → widthAtOnce s q ≡ Some w → RestCleared rs ms rs′ ms′ → AnewT ws xs rs ms es b q w rs′ ms′
+  anew-at-once w rs′ ms′ e cl = go (isLeaf (s .kind)) refl
+    where
+      go : (v : Bool) → isLeaf (s .kind) ≡ v → AnewT ws xs rs ms es b q w rs′ ms′
+      go true lf = anew-leaf w rs′ ms′ lf cl (ap (orElse w) (sym e ∙ at-once-by true lf))
+      go false lf = anew-known (probeKnown s q) w rs′ ms′ lf refl (sym (at-once-by false lf) ∙ e) cl
+
+  pub anew-inside : (a : AvailableSpace) (most r : Float) (nr : List Float) (nm : List ℕ) → widthAtOnce s q ≡ None → a ≡ spaceIn s None (q .available)
+      → WidestF (take (length ws - 4) (drop 4 ws)) xs (take (length rs - 16) (drop 16 rs)) (take (length ms - 2) (drop 2 ms)) es (b + 1) a most nr nm → r ≡ foundWidth s None most
+      → AnewT ws xs rs ms es b q r (putMid 16 (length rs - 16) rs nr) (putMid 2 (length ms - 2) ms nm)
+  unfolding isSome
+  anew-inside a most r nr nm e ha hw hr = go (isLeaf (s .kind)) refl
+    where
+      go : (v : Bool) → isLeaf (s .kind) ≡ v → AnewT ws xs rs ms es b q r (putMid 16 (length rs - 16) rs nr) (putMid 2 (length ms - 2) ms nm)
+      go true lf = absurd (true≢false (ap isSome (sym (at-once-by true lf) ∙ e)))
+      go false lf = anew-below (probeKnown s q) a most r nr nm lf refl (sym (at-once-by false lf) ∙ e) ha hw hr
 
 -- one child of a container without a width
 root-want : (l : Cell) (ks : Forest Cell) (s : Style) (a : AvailableSpace) (w v : Want) → s ≡ l .site .style → w ≡ wantOf s a → w ≡ v → wantOf (rootT (node l ks) .site .style) a ≡ v
@@ -189,3 +221,14 @@ module _ (ws : List ℕ) (xs rs : List Float) (ms es : List ℕ) (b : ℕ) (a : 
       let om : o ≡ outerWidth (rootT t .site .style) a (askP t q .answer) = ho ∙ ap (λ (z : Style). outerWidth z a x) st2 ∙ ap (outerWidth (rootT t .site .style) a) (p .0) in
       by-child l ks r (record { most = larger most (outerWidth (rootT t .site .style) a (askP t q .answer)); nodes = askP t q .nodes })
       (widenedT-is most a t (want.Probe q) (root-want l ks s a w (want.Probe q) st hw e) ∙ by-probe most a t q) (hr ∙ ap (larger most) om) (p .1)
+
+  -- one that is not probed, by the tags of the other two
+  pub widened-past : (r : Float) → OneOf (0 ∷ 1 ∷ []) (tagOf the-type w) → AllBecome rs ms rs′ ms′ clearedRow → r ≡ mostPast w most → WidenedT ws xs rs ms es b a most r rs′ ms′
+  unfolding mostPast
+  widened-past r one cl hr = go w refl one
+    where
+      go : (v : Want) → w ≡ v → OneOf (0 ∷ 1 ∷ []) (tagOf the-type v) → WidenedT ws xs rs ms es b a most r rs′ ms′
+      go Nothing e _ = λ t h. rw (hr ∙ ap (λ (z : Want). mostPast z most) e) (widened-nothing e cl t h)
+      go (Outer o) e _ = widened-outer o r e cl (hr ∙ ap (λ (z : Want). mostPast z most) e)
+      go (want.Probe p) e (inl k) = absurd (omega (arith, k))
+      go (want.Probe p) e (inr k) = absurd (omega (arith, k))

@@ -1,7 +1,10 @@
 // The width pass, in place: probes of a container without a width, and the probe words that every row is left with.
 ghost use mathlib.Core.Path.{_≡_};
+ghost use Prim.Native.Nat.{_<_, _≤_};
+ghost use lib.ListN.{length};
+ghost use Rattle.style.specs.Style.{planeOf, styleAt};
 ghost use Rattle.rows.specs.Store.{OneRow, Becomes, clearedRow};
-ghost use Rattle.probing.specs.Contract.{IsTree, IsForest, Rows, RestCleared, Stands, ProbedT, AnewT, WidenedT, WidestF, PassedT};
+ghost use Rattle.probing.specs.Contract.{IsTree, IsForest, Rows, RestCleared, Stands, widthAtOnce, mostPast, ProbedT, AnewT, WidenedT, WidestF, PassedT};
 use length::AvailableSpace;
 use steps::LayoutInput;
 use steps::ProbeInput;
@@ -33,6 +36,32 @@ fn stands(rows: &[f32], marks: &[u32], edits: &[u32], base: usize, n: usize, q: 
         return false;
     }
     rows::probe_stands(rows, marks, q)
+}
+
+// A width without step F below: a leaf's, or one that steps B and D give.
+fn width_at_once(words: &[u32], numbers: &[f32], base: usize, q: ProbeInput) -> OptionF32
+    requires { ⌜ (4 ≤ length (now words)) × (base < planeOf (now numbers)) ⌝ }
+    ensures { λ o. ⌜ o ≡ widthAtOnce (styleAt (now (words .entry)) 0 (now (numbers .entry)) base) q ⌝ }
+{
+    if reader::is_leaf(words) {
+        let a = q.available;
+        let w = widths::leaf_width(style::measure_at(words, 0, numbers, base), a);
+        return OptionF32::Some(w);
+    }
+    let r = reader::reader_at(words, numbers, base);
+    let known = widths::probe_known(r, numbers, q);
+    known.width
+}
+
+// The largest width so far, past a child that is not probed.
+fn most_past(want: Want, most: f32) -> f32
+    ensures { λ r. ⌜ r ≡ mostPast want most ⌝ }
+{
+    match want {
+        Want::Nothing => most,
+        Want::Outer(w) => util::f32_max(most, w),
+        Want::Probe(_) => most,
+    }
 }
 
 // Step F: the largest outer width of the children.
@@ -92,20 +121,12 @@ fn widen(
 {
     let r = reader::reader_at(words, numbers, base);
     let want = widths::want_of(r, numbers, a);
-    match want {
-        Want::Nothing => {
-            rows::clear_probes(rows, marks);
-            most
-        }
-        Want::Outer(w) => {
-            rows::clear_probes(rows, marks);
-            util::f32_max(most, w)
-        }
-        Want::Probe(q) => {
-            let w = probe(words, numbers, rows, marks, edits, base, depth, q);
-            util::f32_max(most, widths::outer_width(r, numbers, a, w))
-        }
+    if let Want::Probe(q) = want {
+        let w = probe(words, numbers, rows, marks, edits, base, depth, q);
+        return util::f32_max(most, widths::outer_width(r, numbers, a, w));
     }
+    rows::clear_probes(rows, marks);
+    most_past(want, most)
 }
 
 // A probe: the noted answer where it stands, else a new one, and its note.
@@ -131,7 +152,7 @@ fn probe(
     w
 }
 
-// A new answer: a leaf's width, a width that steps B and D give, else step F below.
+// A new answer: a width at once, else step F below.
 fn probe_anew(
     words: &[u32],
     numbers: &[f32],
@@ -146,19 +167,14 @@ fn probe_anew(
     ensures { λ r. ⌜ AnewT (now (words .entry)) (now (numbers .entry)) (now (rows .entry)) (now (marks .entry)) (now (edits .entry)) base q r (now (rows .exit)) (now (marks .exit)) ⌝ }
 {
     let a = q.available;
-    if reader::is_leaf(words) {
-        clear_rest(rows, marks);
-        return widths::leaf_width(style::measure_at(words, 0, numbers, base), a);
-    }
-    let r = reader::reader_at(words, numbers, base);
-    let known = widths::probe_known(r, numbers, q);
-    let width = known.width;
+    let width = width_at_once(words, numbers, base, q);
     match width {
         OptionF32::Some(w) => {
             clear_rest(rows, marks);
             w
         }
         OptionF32::None => {
+            let r = reader::reader_at(words, numbers, base);
             let inside = widths::available_inside(r, numbers, OptionF32::None, a);
             let most = determine_content_based_container_width(
                 &words[4..],

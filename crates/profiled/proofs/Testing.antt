@@ -2,7 +2,8 @@
 use mathlib.Core.Path.{_≡_, refl, sym, ap, _∙_, subst}
 use mathlib.Core.Bool.{Bool, true, false, cond, _||_}
 use mathlib.Core.List.{List, []}
-use Prim.Native.Nat.{ℕ, _≤_}
+use Prim.Native.Nat.{ℕ}
+use native.Mathlib.Omega.{arith}
 use lib.Dec.{ltb}
 use lib.Ieee.{Float}
 use Rattle.limits.specs.Bools.{or-left}
@@ -25,6 +26,7 @@ use Rattle.steps.specs.declared.Spot.the-variants.{Nowhere, At}
 use Rattle.tables.proofs.Passing.{sized, then-pass-1, if-pass}
 use Rattle.layout.specs.Public.{Replied}
 use Rattle.profile.specs.Profile.{profileSpot}
+use Rattle.profiles.specs.Numbers.{Placed}
 use Rattle.profiled.specs.Profiled.{profilePaper, profileSizePaper, earlyTested, upTo4, profileTested, ProfileReply, profileReply, profiledLayoutResult, profiledRelayoutResult, ofSize, sizeOr, profiledSizeResult, yesBy, yesOrNo}
 use Rattle.profiled.specs.Public.{ProfileReplied, ProfileSized}
 use Rattle.profiled.specs.declared.ProfileAnswer.{ProfileAnswer}
@@ -59,14 +61,19 @@ pub early-is : (ws : List ℕ) (xs rs : List Float) (ms cw : List ℕ) (cx : Lis
 unfolding layoutTested earlyTested no5
 early-is ws xs rs ms cw cx q = early-by (badTables ws xs || badRows ws rs ms) (ltb (recordsIn cw cx) (needed (pageOf ws xs []))) (pageTested ws xs q) (page-stays ws xs q)
 
--- ---- tests that pass have counted the nodes
-pub few-early : (ws : List ℕ) (xs rs : List Float) (ms : List ℕ) (q : LayoutInput) → earlyTested ws xs rs ms q ≡ Pass → nodesIn ws ≤ 1024
-unfolding earlyTested
-few-early ws xs rs ms q e = sized ws xs (or-left (badTables ws xs) _ (if-pass (badTables ws xs || badRows ws rs ms) Lengths (then-pass-1 (refuseIf (badTables ws xs || badRows ws rs ms) Lengths) _ e))) .few
+-- ---- tests that pass have counted the nodes, and their numbers
+placed : (ws : List ℕ) (xs : List Float) → badTables ws xs ≡ false → Placed ws xs
+placed ws xs e =
+    let s = sized ws xs e in
+    record { few = s .few; planes = omega (arith, s .numbers) }
 
-pub few-sized : (ws : List ℕ) (xs : List Float) (q : LayoutInput) → sizeTested ws xs q ≡ Pass → nodesIn ws ≤ 1024
+pub few-early : (ws : List ℕ) (xs rs : List Float) (ms : List ℕ) (q : LayoutInput) → earlyTested ws xs rs ms q ≡ Pass → Placed ws xs
+unfolding earlyTested
+few-early ws xs rs ms q e = placed ws xs (or-left (badTables ws xs) _ (if-pass (badTables ws xs || badRows ws rs ms) Lengths (then-pass-1 (refuseIf (badTables ws xs || badRows ws rs ms) Lengths) _ e)))
+
+pub few-sized : (ws : List ℕ) (xs : List Float) (q : LayoutInput) → sizeTested ws xs q ≡ Pass → Placed ws xs
 unfolding sizeTested
-few-sized ws xs q e = sized ws xs (if-pass (badTables ws xs) Lengths (then-pass-1 (refuseIf (badTables ws xs) Lengths) _ e)) .few
+few-sized ws xs q e = placed ws xs (if-pass (badTables ws xs) Lengths (then-pass-1 (refuseIf (badTables ws xs) Lengths) _ e))
 
 -- ---- one case of a test, of a number
 pub tested-so : {t : Tested} {s : Spot} {u : Tested} {v : Spot} → t ≡ u → s ≡ v → profileTested t s ≡ profileTested u v

@@ -1,7 +1,5 @@
 // The plain calls asked as profile: 1 to 4, then 11, a page that is not of the profile, then what the plain call answers.
 ghost use mathlib.Core.Path.{_≡_};
-ghost use Prim.Native.Nat.{_≤_};
-ghost use Rattle.steps.specs.Page.{nodesIn};
 ghost use Rattle.steps.specs.Question.{rootInput};
 ghost use Rattle.steps.specs.Noes.{sizeTested};
 ghost use Rattle.profile.specs.Profile.{profileSpot};
@@ -88,7 +86,7 @@ fn early_tested(
 
 // 11, where none of 1 to 4 is due.
 fn profile_tested(t: Tested, words: &[u32], numbers: &[f32], q: LayoutInput) -> ProfileTested
-    requires { ⌜ Few t (now words) ⌝ }
+    requires { ⌜ Few t (now words) (now numbers) ⌝ }
     ensures { λ r. ⌜ r ≡ profileTested t (profileSpot (now (words .entry)) (now (numbers .entry)) q) ⌝ }
 {
     if let Tested::Refuse(a) = t {

@@ -21,7 +21,7 @@ use Rattle.profile.specs.Exact.{NodesIn, yes-told, told-yes}
 use Rattle.profiled.specs.Profiled.{profilePaper, profileTested, profiledLayoutResult, profiledRelayoutResult, yesBy, yesOrNo}
 use Rattle.profiled.specs.declared.ProfileAnswer.{ProfileAnswer}
 use Rattle.profiled.specs.declared.ProfileAnswer.the-variants.{Plain, Outside}
-use Rattle.face.specs.Answered.{Halves}
+use Rattle.asked.specs.Halves.{Halves}
 use Rattle.face.specs.AsProfile.{ProfileAnswered}
 use Rattle.profiled_claims.specs.Cases.{no-plain, plain-answer}
 use Rattle.profiled_claims.specs.Eleven.{OutsideAt, EarlySound, layout-eleven, relayout-eleven, no-eleven}

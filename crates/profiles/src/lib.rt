@@ -1,22 +1,18 @@
 // The whole-pixel profile: a yes or no with its place, by the tables and the question alone.
 ghost use mathlib.Core.Path.{_≡_};
 ghost use mathlib.Core.Bool.{not, _||_};
-ghost use Prim.Native.Nat.{_≤_};
+ghost use Prim.Native.Nat.{_<_};
 ghost use lib.Dec.{eqb};
 ghost use Rattle.steps.specs.Page.{nodesIn};
-ghost use Rattle.steps.specs.Scan.{firstOf};
-ghost use Rattle.profile.specs.Profile.{wholeLength, wholeOption, centers, wholeSize, wholeRect, wholeSizes, wholeSides, wholeTable, plainStyle, profileStyle, twoAutos, ofProfile, outside, wholeQuestion, profileSpot};
+ghost use Rattle.steps.specs.Scan.{firstOf, some};
+ghost use Rattle.style.specs.Style.{numberAt};
+ghost use Rattle.profile.specs.Profile.{wholeLength, wholeOption, centers, ofProfile, outside, wholeQuestion, profileSpot};
+ghost use Rattle.profiles.specs.Numbers.{Placed, NodeOf, unitAt, asLength, broken, sidesAuto, inNumbers};
 use length::Length;
-use length::LengthRect;
-use length::LengthSize;
 use length::is_auto;
 use steps::LayoutInput;
 use steps::Spot;
 use style::AlignContent;
-use style::Measure;
-use style::Style;
-use style::number;
-use style::style_at;
 use util::OptionF32;
 use whole::is_pixel;
 
@@ -57,103 +53,100 @@ fn is_center(a: AlignContent) -> bool
     }
 }
 
-fn whole_size(s: LengthSize) -> bool
-    ensures { λ r. ⌜ r ≡ wholeSize s ⌝ }
+// Number f of node i, in planes of n.
+fn number(numbers: &[f32], n: usize, i: usize, f: usize) -> f32
+    requires { ⌜ NodeOf (now numbers) n i × (f < 28) ⌝ }
+    ensures { λ r. ⌜ r ≡ numberAt (now (numbers .entry)) i f ⌝ }
 {
-    let width = s.width;
-    let height = s.height;
-    whole_length(width) && whole_length(height)
+    let at = style::number_place(n, i, f);
+    numbers[at]
 }
 
-fn whole_rect(s: LengthRect) -> bool
-    ensures { λ r. ⌜ r ≡ wholeRect s ⌝ }
+// The unit of number f: the ratio has none, and what is no length counts as pixels.
+fn unit_at(u: u32, v: u32, f: usize) -> u32
+    ensures { λ r. ⌜ r ≡ unitAt u v f ⌝ }
 {
-    let top = s.top;
-    let right = s.right;
-    let bottom = s.bottom;
-    let left = s.left;
-    whole_length(top) && (whole_length(right) && (whole_length(bottom) && whole_length(left)))
+    if f < 22 {
+        return style::unit(u, v, f as u32);
+    }
+    if f == 22 { 0 } else { 1 }
 }
 
-fn whole_sizes(s: Style) -> bool
-    ensures { λ r. ⌜ r ≡ wholeSizes s ⌝ }
+// Number f as a length.
+fn length_at(u: u32, v: u32, numbers: &[f32], n: usize, i: usize, f: usize) -> Length
+    requires { ⌜ NodeOf (now numbers) n i × (f < 28) ⌝ }
+    ensures { λ r. ⌜ r ≡ asLength u v (now (numbers .entry)) i f ⌝ }
 {
-    let size = s.size;
-    let min = s.min;
-    let max = s.max;
-    whole_size(size) && (whole_size(min) && whole_size(max))
+    style::length_from(unit_at(u, v, f), number(numbers, n, i, f))
 }
 
-fn whole_sides(s: Style) -> bool
-    ensures { λ r. ⌜ r ≡ wholeSides s ⌝ }
+// Some number is neither auto nor whole pixels.
+fn some_broken(u: u32, v: u32, numbers: &[f32], n: usize, i: usize) -> bool
+    requires { ⌜ NodeOf (now numbers) n i ⌝ }
+    ensures { λ r. ⌜ r ≡ some (broken u v (now (numbers .entry)) i) 28 ⌝ }
 {
-    let margin = s.margin;
-    let padding = s.padding;
-    let border = s.border;
-    let inset = s.inset;
-    whole_rect(margin) && (whole_rect(padding) && (whole_rect(border) && whole_rect(inset)))
+    let mut f = 0;
+    while f < 28 {
+        if !whole_length(length_at(u, v, numbers, n, i, f)) {
+            return true;
+        }
+        f += 1;
+    }
+    false
 }
 
-fn whole_table(m: Measure) -> bool
-    ensures { λ r. ⌜ r ≡ wholeTable m ⌝ }
+// Both side margins are auto.
+fn sides_auto(u: u32, v: u32, numbers: &[f32], n: usize, i: usize) -> bool
+    requires { ⌜ NodeOf (now numbers) n i ⌝ }
+    ensures { λ r. ⌜ r ≡ sidesAuto u v (now (numbers .entry)) i ⌝ }
 {
-    is_pixel(m.least) && (is_pixel(m.most) && is_pixel(m.height))
-}
-
-// No ratio, a whole scrollbar, no center.
-fn plain_style(s: Style) -> bool
-    ensures { λ r. ⌜ r ≡ plainStyle s ⌝ }
-{
-    let ratio = s.ratio;
-    let align = s.align;
-    !ratio.is_some() && (is_pixel(s.scrollbar) && !is_center(align))
-}
-
-// The list at a style.
-fn profile_style(s: Style) -> bool
-    ensures { λ r. ⌜ r ≡ profileStyle s ⌝ }
-{
-    let measure = s.measure;
-    whole_sizes(s) && (whole_sides(s) && (whole_table(measure) && plain_style(s)))
-}
-
-fn two_autos(s: Style) -> bool
-    ensures { λ r. ⌜ r ≡ twoAutos s ⌝ }
-{
-    let margin = s.margin;
-    let left = margin.left;
-    let right = margin.right;
+    let left = length_at(u, v, numbers, n, i, 9);
+    let right = length_at(u, v, numbers, n, i, 7);
     is_auto(left) && is_auto(right)
 }
 
 // The root, or not both side margins auto.
-fn one_auto(s: Style, i: usize) -> bool
-    ensures { λ r. ⌜ r ≡ (eqb i 0 || not (twoAutos s)) ⌝ }
+fn one_auto(u: u32, v: u32, numbers: &[f32], n: usize, i: usize) -> bool
+    requires { ⌜ NodeOf (now numbers) n i ⌝ }
+    ensures { λ r. ⌜ r ≡ (eqb i 0 || not (sidesAuto u v (now (numbers .entry)) i)) ⌝ }
 {
     if i == 0 {
         return true;
     }
-    !two_autos(s)
+    !sides_auto(u, v, numbers, n, i)
+}
+
+// Node i, with these words and numbers, is of the profile.
+fn in_numbers(w: u32, u: u32, v: u32, numbers: &[f32], n: usize, i: usize) -> bool
+    requires { ⌜ NodeOf (now numbers) n i ⌝ }
+    ensures { λ r. ⌜ r ≡ inNumbers w u v (now (numbers .entry)) i ⌝ }
+{
+    let ratio = style::ratio_from(number(numbers, n, i, 22));
+    let align = style::align_of(w);
+    !some_broken(u, v, numbers, n, i)
+        && (!ratio.is_some() && (!is_center(align) && one_auto(u, v, numbers, n, i)))
 }
 
 // Node i is of the profile.
-fn of_profile(words: &[u32], numbers: &[f32], i: usize) -> bool
+fn of_profile(words: &[u32], numbers: &[f32], n: usize, i: usize) -> bool
+    requires { ⌜ (n ≡ nodesIn (now words)) × NodeOf (now numbers) n i ⌝ }
     ensures { λ r. ⌜ r ≡ ofProfile (now (words .entry)) (now (numbers .entry)) i ⌝ }
 {
-    let s = style_at(words, i, numbers, i);
-    let line = number(numbers, i, 27);
-    profile_style(s) && (is_pixel(line) && one_auto(s, i))
+    let w = style::word_in(words, i, 1);
+    let u = style::word_in(words, i, 2);
+    let v = style::word_in(words, i, 3);
+    in_numbers(w, u, v, numbers, n, i)
 }
 
 // The lowest node that is not.
 fn first_outside(words: &[u32], numbers: &[f32]) -> Spot
-    requires { ⌜ nodesIn (now words) ≤ 1024 ⌝ }
+    requires { ⌜ Placed (now words) (now numbers) ⌝ }
     ensures { λ r. ⌜ r ≡ firstOf (outside (now (words .entry)) (now (numbers .entry))) (nodesIn (now (words .entry))) ⌝ }
 {
     let n = words.len() / 4;
     let mut i = 0;
     while i < n {
-        if !of_profile(words, numbers, i) {
+        if !of_profile(words, numbers, n, i) {
             return Spot::At(i as u32);
         }
         i += 1;
@@ -178,7 +171,7 @@ fn whole_question(q: LayoutInput) -> bool
 
 // Nowhere, or the lowest node that is not of the profile, or n where the question alone is not.
 pub fn profile_spot(words: &[u32], numbers: &[f32], q: LayoutInput) -> Spot
-    requires { ⌜ nodesIn (now words) ≤ 1024 ⌝ }
+    requires { ⌜ Placed (now words) (now numbers) ⌝ }
     ensures { λ r. ⌜ r ≡ profileSpot (now (words .entry)) (now (numbers .entry)) q ⌝ }
 {
     if let Spot::At(k) = first_outside(words, numbers) {

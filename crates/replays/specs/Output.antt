@@ -14,7 +14,7 @@ use Rattle.page.specs.declared.PageFile.the-variants.{BadLine, Page}
 use Rattle.print.specs.Pen.{Pen, putAll}
 use Rattle.print.specs.Text.{answerText, badText, each}
 use Rattle.rowtext.specs.RowText.{rowLine}
-use Rattle.day.specs.Sheet.{sheet}
+use Rattle.sheet.specs.Sheet.{sheet}
 use Rattle.day.specs.Day.{Day, dayAfter, answersOf}
 use Rattle.day.specs.declared.Event.{Event}
 use Rattle.trace.specs.File.{traceFile, traceEvents}

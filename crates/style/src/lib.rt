@@ -2,7 +2,7 @@
 mod decode;
 
 ghost use mathlib.Core.Path.{_≡_};
-ghost use Prim.Native.Nat.{_+_, _*_, _^_, _<_, _≤_};
+ghost use Prim.Native.Nat.{ℕ, _+_, _*_, _^_, _<_, _≤_};
 ghost use lib.ListN.{length};
 ghost use Rattle.style.specs.Codes.{codeAt, flagAt, clearFrom, kindOf, positionOf, overflowOf, distributionAt, alignOf, distributed, alignAt, overflowXY, unitOf, lengthOf, ratioOf, baselineOf};
 ghost use Rattle.style.specs.Flow.{positioned, flowBy, flowAt, isLeaf};
@@ -170,12 +170,20 @@ pub fn word(words: &[u32], i: usize, k: usize) -> u32
     0
 }
 
-// Where number f of node i stands, in planes of n. Nothing else knows the order.
+// Where number f of node i stands, in planes of n. Nothing but this and the next function knows the order.
 pub fn number_place(n: usize, i: usize, f: usize) -> usize
     requires { ⌜ numberPlace n i f < 2 ^ 64 ⌝ }
     ensures { λ r. ⌜ r ≡ numberPlace n i f ⌝ }
 {
     f * n + i
+}
+
+// Where the next number of the same node stands, whichever this one is.
+pub fn next_place(n: usize, at: usize) -> usize
+    requires { ⌜ at + n < 2 ^ 64 ⌝ }
+    ensures { λ r. ⌜ ((i f : ℕ) → at ≡ numberPlace n i f → r ≡ numberPlace n i (f + 1)) ⌝ }
+{
+    at + n
 }
 
 // Number f of node i in planes of n, and 0 past the last node.

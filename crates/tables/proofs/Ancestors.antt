@@ -16,8 +16,8 @@ use Rattle.steps.specs.Scan.{howMany}
 use Rattle.steps.specs.Page.{nodesIn}
 use Rattle.steps.specs.Noes.{endAt, holds, badTree}
 use Rattle.tables.specs.Ancestors.{Child, first, next, Ancestor, parent, further, Depth, root, below}
-use Rattle.tables.proofs.Fronts.{holds-yes, holds-no, holds-true, nested}
-use Rattle.tables.proofs.Counting.{count-none, count-yes, count-more, count-same}
+use Rattle.shape.proofs.Fronts.{holds-yes, holds-no, holds-true, nested}
+use Rattle.shape.proofs.Counting.{count-none, count-yes, count-more, count-same}
 use Rattle.tables.proofs.Exactly.{Exactly}
 
 -- no node below i is at fault

@@ -25,10 +25,12 @@ use Rattle.steps.specs.Page.{Site, Cell, nodesIn, siteAt, cellAt, pageOf, cells
 use Rattle.steps.specs.Noes.{endAt, badTree}
 use Rattle.steps.specs.declared.Found.the-variants.{Nowhere}
 use Rattle.tables.specs.Leaves.{LeavesT, LeavesF, leafWord}
-use Rattle.tables.specs.TreeCheck.{Front, nodeFault, GoodTable}
-use Rattle.tables.proofs.ScanLaws.{Clear, lowest-nowhere}
-use Rattle.tables.proofs.Fronts.{fine, bad-is, inside, beyond, below-root}
-use Rattle.tables.proofs.CheckRoot.{root-whole, root-no-leaf}
+use Rattle.shape.specs.TreeCheck.{Front, nodeFault}
+use Rattle.tables.specs.TreeCheck.{GoodTable}
+use Rattle.scans.specs.Scans.{Clear}
+use Rattle.tables.proofs.ScanLaws.{lowest-nowhere}
+use Rattle.shape.proofs.Fronts.{fine, bad-is, inside, beyond, below-root}
+use Rattle.shape.proofs.CheckRoot.{root-whole, root-no-leaf}
 
 -- what a table that passes is to a parser; p says which labels are leaves'
 pub record Parsed {A : Type 0} (p : A → Bool) (f : ℕ → Entry A) (n : ℕ) : Type 0 where

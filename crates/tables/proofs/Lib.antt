@@ -1,9 +1,4 @@
 pub mod ScanLaws
-pub mod Counting
-pub mod Fronts
-pub mod Parts
-pub mod CheckTurn
-pub mod CheckRoot
 pub mod GoodPage
 pub mod NeededWalk
 pub mod Passing
@@ -11,7 +6,3 @@ pub mod Exactly
 pub mod Ancestors
 pub mod TreePasses
 pub mod TreeFaults
-pub mod UnitMasks
-pub mod UnitTests
-pub mod FieldRuns
-pub mod PixelRuns

@@ -18,9 +18,9 @@ use Rattle.steps.specs.Page.{nodesIn}
 use Rattle.steps.specs.Noes.{endAt, holds, badTree}
 use Rattle.tables.specs.Refusals.{Lowest}
 use Rattle.tables.specs.Ancestors.{Ancestor, parent, further, TreeFault, root-size, no-size, past-parent, leaf-size, too-deep, LowestFault}
-use Rattle.tables.proofs.ScanLaws.{some-is, is-some, never}
-use Rattle.tables.proofs.Counting.{both}
-use Rattle.tables.proofs.Fronts.{holds-yes, holds-true, nested}
+use Rattle.scans.specs.Scans.{some-is, is-some, never}
+use Rattle.shape.proofs.Counting.{both}
+use Rattle.shape.proofs.Fronts.{holds-yes, holds-true, nested}
 use Rattle.tables.proofs.Ancestors.{Lower, child-in, child-after, ancestor-holds, holds-is, depth-counts, has-depth}
 use Rattle.tables.proofs.Exactly.{Exactly}
 

@@ -20,10 +20,11 @@ use Rattle.steps.specs.Page.{nodesIn, siteAt}
 use Rattle.steps.specs.Noes.{endAt, badTree}
 use Rattle.steps.specs.declared.Found.the-variants.{Nowhere}
 use Rattle.tables.specs.Leaves.{LeavesT, LeavesF, leafWord}
-use Rattle.tables.specs.TreeCheck.{Front, nodeFault}
-use Rattle.tables.proofs.ScanLaws.{Clear, nowhere-lowest}
-use Rattle.tables.proofs.Fronts.{fine, bad-is, inside, beyond, below-root}
-use Rattle.tables.proofs.CheckRoot.{root-fine}
+use Rattle.shape.specs.TreeCheck.{Front, nodeFault}
+use Rattle.scans.specs.Scans.{Clear}
+use Rattle.tables.proofs.ScanLaws.{nowhere-lowest}
+use Rattle.shape.proofs.Fronts.{fine, bad-is, inside, beyond, below-root}
+use Rattle.shape.proofs.CheckRoot.{root-fine}
 use Rattle.tables.proofs.GoodPage.{good-parse, leafSite, site-size, site-leaf}
 use Rattle.tables.proofs.Exactly.{Exactly}
 

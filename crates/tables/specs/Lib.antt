@@ -3,4 +3,3 @@ pub mod Walk
 pub mod Refusals
 pub mod Leaves
 pub mod Ancestors
-pub mod Runs

@@ -1,32 +1,26 @@
 // The tests before any write: whatever words and numbers arrive, the first refusal that is due, and its place.
-mod codes;
 mod edits;
 mod needed;
-mod numbers;
-mod shape;
 
 ghost use mathlib.Core.Path.{_≡_};
 ghost use Prim.Native.Nat.{_≤_};
-ghost use Rattle.steps.specs.Scan.{lowest};
+ghost use Rattle.style.specs.Style.{planeOf};
 ghost use Rattle.steps.specs.Page.{nodesIn};
 ghost use Rattle.tables.specs.TreeCheck.{GoodTable};
-ghost use Rattle.steps.specs.Noes.{badTables, badRows, badTree, no2, no3, no4, no7, pageTested, layoutTested, relayoutTested, sizeTested};
+ghost use Rattle.steps.specs.Noes.{badTables, badRows, no2, no3, no7, pageTested, layoutTested, relayoutTested, sizeTested};
 ghost use Rattle.tables.specs.Walk.{RoomTested};
-use crate::codes::first_bad_style;
 use crate::edits::edits_tested;
 use crate::needed::count_needed;
 use crate::needed::records_in;
-use crate::numbers::bad_question;
-use crate::numbers::first_bad_numbers;
-use crate::shape::below;
-use crate::shape::long_leaf;
+use codes::first_bad_style;
+use numbers::numbers_tested;
+use shape::check_tree;
 use steps::Answer;
 use steps::Found;
 use steps::LayoutInput;
 use steps::Tested;
 use style::flag;
 use style::word;
-use tree::NodeId;
 
 // 1: no node, over 1,024, or not 4 words and 28 numbers for each.
 fn bad_tables(words: &[u32], numbers: &[f32]) -> bool
@@ -57,24 +51,6 @@ pub fn bad_rows(words: &[u32], rows: &[f32], marks: &[u32]) -> bool
     marks.len() != 2 * n
 }
 
-// 2: the lowest node at fault.
-pub fn check_tree(words: &[u32]) -> Found
-    ensures { λ r. ⌜ r ≡ lowest (badTree (now (words .entry))) (nodesIn (now (words .entry))) ⌝ }
-{
-    let n = words.len() / 4;
-    if n == 0 {
-        return Found::Nowhere;
-    }
-    let size = word(words, 0, 0) as usize;
-    if size != n {
-        return Found::At(NodeId(0));
-    }
-    if long_leaf(word(words, 0, 1), size) {
-        return Found::At(NodeId(0));
-    }
-    below(&words[4..4 * n], 1, 31)
-}
-
 // 2.
 pub fn tree_tested(words: &[u32]) -> Tested
     ensures { λ r. ⌜ r ≡ no2 (now (words .entry)) ⌝ }
@@ -94,28 +70,6 @@ pub fn codes_tested(words: &[u32], numbers: &[f32]) -> Tested
         Found::Nowhere => Tested::Pass,
         Found::At(i) => Tested::Refuse(Answer::Codes(i)),
     }
-}
-
-// 4: the question's place is n.
-fn question_place(words: &[u32]) -> u32
-    requires { ⌜ nodesIn (now words) ≤ 1024 ⌝ }
-    ensures { λ r. ⌜ r ≡ nodesIn (now (words .entry)) ⌝ }
-{
-    (words.len() / 4) as u32
-}
-
-// 4: the nodes first, then the question.
-fn numbers_tested(words: &[u32], numbers: &[f32], q: LayoutInput) -> Tested
-    requires { ⌜ nodesIn (now words) ≤ 1024 ⌝ }
-    ensures { λ r. ⌜ r ≡ no4 (now (words .entry)) (now (numbers .entry)) q ⌝ }
-{
-    if let Found::At(i) = first_bad_numbers(words, numbers) {
-        return Tested::Refuse(Answer::Numbers(i.0));
-    }
-    if bad_question(q) {
-        return Tested::Refuse(Answer::Numbers(question_place(words)));
-    }
-    Tested::Pass
 }
 
 // 5.
@@ -141,7 +95,7 @@ pub fn root_tested(marks: &[u32]) -> Tested
 
 // 2 to 4.
 fn page_tested(words: &[u32], numbers: &[f32], q: LayoutInput) -> Tested
-    requires { ⌜ nodesIn (now words) ≤ 1024 ⌝ }
+    requires { ⌜ (nodesIn (now words) ≤ 1024) × (nodesIn (now words) ≡ planeOf (now numbers)) ⌝ }
     ensures { λ r. ⌜ r ≡ pageTested (now (words .entry)) (now (numbers .entry)) q ⌝ }
 {
     if let Tested::Refuse(a) = tree_tested(words) {

@@ -3,9 +3,9 @@ ghost use mathlib.Core.Path.{_≡_};
 ghost use Rattle.trace.specs.Event.{numberEvent, numberText, wordEvent, wordText};
 use crate::EventLine;
 use day::Event;
-use day::NodeNumber;
-use day::NodeWord;
 use lines::NumLine;
+use sheet::NodeNumber;
+use sheet::NodeWord;
 use text::Value;
 
 // A number of one of n nodes.

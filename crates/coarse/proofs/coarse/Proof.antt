@@ -1,6 +1,7 @@
-use mathlib.Core.Path.{refl, sym, _∙_}
+use mathlib.Core.Path.{refl, sym, ap, _∙_}
 use denote.Ref.{now}
-use Rattle.coarse.proofs.Making.{accepted, none-far, shown, refused, too-far}
+use lib.ListN.{length}
+use Rattle.coarse.proofs.Making.{accepted, shown, refused, too-far}
 use borrow.Author.Needs.{needs}
 use Rattle.coarse.proofs.coarse.Statement.{statement}
 use Rattle.coarse.proofs.coarse.Tie as tie
@@ -11,12 +12,13 @@ coarse-tested-requires c κs = search needs
 enum-told : tie.Need-enum-told
 enum-told c = search needs
 
-put-boxes-requires : tie.Need-put-boxes-requires
-put-boxes-requires c κs =
-    let a = c .before .before .before .before .before .before .before .before .args in
-    let e = sym (c .before .before .before .coarse-tested .ensures) ∙ c .before .enum-told .given .1 in
+walk-requires : tie.Need-walk-requires
+walk-requires c κs =
+    let at-tested = c .before .before .before .before in
+    let a = at-tested .before .before .before .before .before .args in
+    let e = sym (at-tested .coarse-tested .ensures .0) ∙ c .before .enum-told .given .1 in
     let l = accepted (now (a .words)) (now (a .rows)) (now (a .marks)) (now (a .out)) e in
-    (l .few, ((refl, l .tree), (none-far (now (a .words)) (now (a .rows)) (now (a .marks)) (now (a .out)) e, l .long)))
+    (l .few, ((refl, l .tree), ap length (at-tested .coarse-tested .ensures .1) ∙ l .long))
 
 enum-known-a : tie.Need-enum-known-a
 enum-known-a c = search needs
@@ -29,24 +31,28 @@ same-length c = search needs
 
 returns : tie.Need-returns
 returns c =
-    let a = c .before .before .before .before .before .before .before .before .before .before .args in
-    shown (now (a .words)) (now (a .rows)) (now (a .marks)) (now (a .out)) (sym (c .before .before .before .before .before .coarse-tested .ensures) ∙ c .before .before .before .enum-told .given .1) _ (c .before .put-boxes .ensures)
+    let at-shown = c .before .before .before in
+    let at-tested = at-shown .before .before .before in
+    let a = at-tested .before .before .before .before .before .args in
+    shown (now (a .words)) (now (a .rows)) (now (a .marks)) (now (a .out)) (sym (at-tested .coarse-tested .ensures .0) ∙ at-shown .enum-told .given .1) _ (c .before .walk .ensures .out-is)
 
 same-length-2 : tie.Need-same-length-2
 same-length-2 c = search needs
 
 returns-2 : tie.Need-returns-2
 returns-2 c =
-    let a = c .before .before .before .before .before .before .before .before .args in
-    refused (now (a .words)) (now (a .rows)) (now (a .marks)) (now (a .out)) _ (sym (c .before .before .before .coarse-tested .ensures) ∙ c .before .a .given .1)
+    let at-tested = c .before .before .before .before in
+    let a = at-tested .before .before .before .before .before .args in
+    rw (at-tested .coarse-tested .ensures .1) (refused (now (a .words)) (now (a .rows)) (now (a .marks)) (now (a .out)) _ (sym (at-tested .coarse-tested .ensures .0) ∙ c .before .a .given .1))
 
 same-length-3 : tie.Need-same-length-3
 same-length-3 c = search needs
 
 returns-3 : tie.Need-returns-3
 returns-3 c =
-    let a = c .before .before .before .before .before .before .before .before .args in
-    too-far (now (a .words)) (now (a .rows)) (now (a .marks)) (now (a .out)) _ (sym (c .before .before .before .coarse-tested .ensures) ∙ c .before .a2 .given .1)
+    let at-tested = c .before .before .before .before in
+    let a = at-tested .before .before .before .before .before .args in
+    rw (at-tested .coarse-tested .ensures .1) (too-far (now (a .words)) (now (a .rows)) (now (a .marks)) (now (a .out)) _ (sym (at-tested .coarse-tested .ensures .0) ∙ c .before .a2 .given .1))
 
 pub coarse-spec : {M : Type 1} → statement M
 coarse-spec =
@@ -54,7 +60,7 @@ coarse-spec =
     (tie.spec
     coarse-tested-requires
     enum-told
-    put-boxes-requires
+    walk-requires
     enum-known-a
     enum-known-a-2
     same-length

@@ -1,6 +1,6 @@
 use mathlib.Core.Path.{_≡_, refl, sym, _∙_, ap}
 use denote.Ref.{now}
-use Rattle.day.specs.Sheet.{Sheet}
+use Rattle.sheet.specs.Sheet.{Sheet}
 use Rattle.day.specs.Day.{day, eventResult, editEvent}
 use borrow.Author.Needs.{needs}
 use Rattle.day.proofs.step.Statement.{statement}
@@ -9,8 +9,8 @@ use Rattle.day.proofs.step.Reads as reads
 use Rattle.day.proofs.step.Lts as lts
 use Rattle.day.proofs.ask_anew.Reads as ask-anew-reads
 use Rattle.day.proofs.done.Reads as done-reads
-use Rattle.day.proofs.edit_number.Reads as edit-number-reads
-use Rattle.day.proofs.edit_word.Reads as edit-word-reads
+use Rattle.sheet.proofs.edit_number.Reads as edit-number-reads
+use Rattle.sheet.proofs.edit_word.Reads as edit-word-reads
 use Rattle.day.proofs.lay.Reads as lay-reads
 use Rattle.day.proofs.relay.Reads as relay-reads
 

@@ -1,7 +1,7 @@
 use mathlib.Core.Path.{ap}
 use denote.Ref.{now}
-use Rattle.day.specs.Sheet.{Sheet}
-use Rattle.day.proofs.EventLaws.{number-no-node, number-no-field, number-edited}
+use Rattle.sheet.specs.Sheet.{Sheet}
+use Rattle.sheet.proofs.SheetLaws.{number-no-node, number-no-field, number-edited}
 use Rattle.panels.specs.Panels.{listed}
 use borrow.Author.Needs.{needs}
 use Rattle.panels.proofs.note_number.Statement.{statement}

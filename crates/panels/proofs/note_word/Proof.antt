@@ -1,7 +1,7 @@
 use mathlib.Core.Path.{ap}
 use denote.Ref.{now}
-use Rattle.day.specs.Sheet.{Sheet}
-use Rattle.day.proofs.EventLaws.{word-no-node, word-zero, word-large, word-edited}
+use Rattle.sheet.specs.Sheet.{Sheet}
+use Rattle.sheet.proofs.SheetLaws.{word-no-node, word-zero, word-large, word-edited}
 use Rattle.panels.specs.Panels.{listed}
 use borrow.Author.Needs.{needs}
 use Rattle.panels.proofs.note_word.Statement.{statement}

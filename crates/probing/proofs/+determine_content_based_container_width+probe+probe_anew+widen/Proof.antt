@@ -12,7 +12,7 @@ use Rattle.reader.specs.Reader.{kind-at, measure-at}
 use Rattle.walks.specs.Tables.{TabledF}
 use Rattle.walks.proofs.Given.{facts}
 use Rattle.probing.proofs.WidestLoop.{Rest, Turn, begin, turn, end}
-use Rattle.probing.proofs.OneTree.{probe-stood, probe-noted, anew-leaf, anew-known, anew-below, widened-nothing, widened-outer, widened-probe, all-rows}
+use Rattle.probing.proofs.OneTree.{probe-stood, probe-noted, anew-at-once, anew-inside, widened-past, widened-probe, all-rows}
 use Prim.Native.Nat.{ℕ, _+_, _*_, _-_, _≤_, _<_}
 use borrow.Fn.Kinds.{In}
 use borrow.Fn.PlainCycle.{Measures, is, falls, and}
@@ -22,6 +22,9 @@ use Rattle.probing.proofs.+determine_content_based_container_width+prob
 use Rattle.probing.proofs.probe.Reads as probe
 use Rattle.probing.proofs.probe.Kinds as probe-kinds
 use Rattle.probing.proofs.+determine_content_based_container_width+probe+probe_anew+widen.Lts-probe as probe-lts
+use Rattle.probing.specs.Contract.{widthAtOnce}
+use Rattle.probing.proofs.most_past.Reads as most-past-reads
+use Rattle.probing.proofs.width_at_once.Reads as width-at-once-reads
 use Rattle.probing.proofs.probe_anew.Reads as probe-anew
 use Rattle.probing.proofs.probe_anew.Kinds as probe-anew-kinds
 use Rattle.probing.proofs.+determine_content_based_container_width+probe+probe_anew+widen.Lts-probe_anew as probe-anew-lts
@@ -33,14 +36,10 @@ use Rattle.probing.proofs.stands.Reads as stands-reads
 use Rattle.rows.proofs.clear_probes.Reads as clear-probes-reads
 use Rattle.rows.proofs.note_probe.Reads as note-probe-reads
 use Rattle.reader.proofs.reader_at.Reads as reader-at-reads
-use Rattle.style.proofs.measure_at.Reads as measure-at-reads
 use Rattle.style.proofs.word_in.Reads as word-in-reads
 use Rattle.util.proofs.f32_max.Reads as f32-max-reads
 use Rattle.widths.proofs.available_inside.Reads as available-inside-reads
-use Rattle.reader.proofs.is_leaf.Reads as is-leaf-reads
-use Rattle.widths.proofs.leaf_width.Reads as leaf-width-reads
 use Rattle.widths.proofs.outer_width.Reads as outer-width-reads
-use Rattle.widths.proofs.probe_known.Reads as probe-known-reads
 use Rattle.widths.proofs.want_of.Reads as want-of-reads
 use Rattle.widths.proofs.width_from.Reads as width-from-reads
 use Rattle.probing.proofs.+determine_content_based_container_width+probe+probe_anew+widen.{statement}
@@ -225,22 +224,64 @@ probe-returns-2 : (t : ℕ) → probe-lts.Need-returns-2 (probe-calls t) (probe-
 probe-returns-2 t c = let s = c .before .before .before .before .before .before .before .before .before .before .before .before .before .before .before .before .before .before .before .before .before .before .before in probe-noted (s .args .words .now) (s .args .numbers .now) (s .args .rows .now) (s .args .marks .now) (s .args .edits .now) (s .args .base) (s .args .q) _ _ _ _ _ _ (c .before .before .before .before .before .before .before .before .before .before .before .before .before .before .before .stands .ensures) (c .before .before .before .before .before .before .before .before .before .before .before .before .before .before .if1 .left) (c .before .before .before .before .before .before .before .before .before .before .before .probe-anew .ensures) (c .before .before .before .before .note-probe .ensures)
 
 abbrev probe-anew-calls : ℕ → probe-anew-lts.Claims
-probe-anew-calls t = (is-leaf-reads.Asked, is-leaf-reads.Learnt, clear-rest-reads.Asked, clear-rest-reads.Learnt, measure-at-reads.Asked, measure-at-reads.Learnt, leaf-width-reads.Asked, leaf-width-reads.Learnt, reader-at-reads.Asked, reader-at-reads.Learnt, probe-known-reads.Asked, probe-known-reads.Learnt, available-inside-reads.Asked, available-inside-reads.Learnt, widest-below t, widest.Post, width-from-reads.Asked, width-from-reads.Learnt)
+probe-anew-calls t = (width-at-once-reads.Asked, width-at-once-reads.Learnt, clear-rest-reads.Asked, clear-rest-reads.Learnt, reader-at-reads.Asked, reader-at-reads.Learnt, available-inside-reads.Asked, available-inside-reads.Learnt, widest-below t, widest.Post, width-from-reads.Asked, width-from-reads.Learnt)
 
-probe-anew-reader-at-requires : (t : ℕ) → probe-anew-lts.Need-reader-at-requires (probe-anew-calls t) (probe-anew-at t) probe-anew.Post
-probe-anew-reader-at-requires t c κs = let f = facts _ _ _ _ _ _ _ (c .before .before .before .before .before .before .before .pre .1) in (f .words-some, f .reach)
+probe-anew-width-at-once-requires : (t : ℕ) → probe-anew-lts.Need-width-at-once-requires (probe-anew-calls t) (probe-anew-at t) probe-anew.Post
+probe-anew-width-at-once-requires t c κs = let f = facts _ _ _ _ _ _ _ (c .before .before .before .before .before .pre .1) in (f .words-some, f .reach)
 
-probe-anew-measure-at-requires : (t : ℕ) → probe-anew-lts.Need-measure-at-requires (probe-anew-calls t) (probe-anew-at t) probe-anew.Post
-probe-anew-measure-at-requires t c κs = search needs
-
-probe-anew-is-leaf-requires : (t : ℕ) → probe-anew-lts.Need-is-leaf-requires (probe-anew-calls t) (probe-anew-at t) probe-anew.Post
-probe-anew-is-leaf-requires t c κs = let f = facts _ _ _ _ _ _ _ (c .before .before .before .before .before .pre .1) in f .words-some
+probe-anew-enum-known-width : (t : ℕ) → probe-anew-lts.Need-enum-known-width (probe-anew-calls t) (probe-anew-at t) probe-anew.Post
+probe-anew-enum-known-width t c = search needs
 
 probe-anew-clear-rest-requires : (t : ℕ) → probe-anew-lts.Need-clear-rest-requires (probe-anew-calls t) (probe-anew-at t) probe-anew.Post
-probe-anew-clear-rest-requires t c κs = let f = facts _ _ _ _ _ _ _ (c .before .before .before .before .before .before .before .before .before .pre .1) in all-rows (f .room) (f .whole)
+probe-anew-clear-rest-requires t c κs = let f = facts _ _ _ _ _ _ _ (c .before .before .before .before .before .before .before .before .before .before .before .pre .1) in all-rows (f .room) (f .whole)
 
-probe-anew-leaf-width-requires : (t : ℕ) → probe-anew-lts.Need-leaf-width-requires (probe-anew-calls t) (probe-anew-at t) probe-anew.Post
-probe-anew-leaf-width-requires t c κs = search needs
+probe-anew-enum-told : (t : ℕ) → probe-anew-lts.Need-enum-told (probe-anew-calls t) (probe-anew-at t) probe-anew.Post
+probe-anew-enum-told t c = search needs
+
+probe-anew-reader-at-requires : (t : ℕ) → probe-anew-lts.Need-reader-at-requires (probe-anew-calls t) (probe-anew-at t) probe-anew.Post
+probe-anew-reader-at-requires t c κs = let f = facts _ _ _ _ _ _ _ (c .before .before .before .before .before .before .before .before .pre .1) in (f .words-some, f .reach)
+
+probe-anew-available-inside-requires : (t : ℕ) → probe-anew-lts.Need-available-inside-requires (probe-anew-calls t) (probe-anew-at t) probe-anew.Post
+probe-anew-available-inside-requires t c κs = search needs
+
+probe-anew-sub-determine-content-based-container-width : (t : ℕ) → probe-anew-lts.Need-sub-determine-content-based-container-width (probe-anew-calls t) (probe-anew-at t) probe-anew.Post
+probe-anew-sub-determine-content-based-container-width t c = let f = facts _ _ _ _ _ _ _ (c .before .before .before .before .before .before .before .before .before .before .pre .1) in omega arith
+
+probe-anew-part-determine-content-based-container-width-start : (t : ℕ) → probe-anew-lts.Need-part-determine-content-based-container-width-start (probe-anew-calls t) (probe-anew-at t) probe-anew.Post
+probe-anew-part-determine-content-based-container-width-start t c = let f = facts _ _ _ _ _ _ _ (c .before .before .before .before .before .before .before .before .before .before .pre .1) in omega arith
+
+probe-anew-part-determine-content-based-container-width-end : (t : ℕ) → probe-anew-lts.Need-part-determine-content-based-container-width-end (probe-anew-calls t) (probe-anew-at t) probe-anew.Post
+probe-anew-part-determine-content-based-container-width-end t c = let f = facts _ _ _ _ _ _ _ (c .before .before .before .before .before .before .before .before .before .before .pre .1) in omega arith
+
+probe-anew-sub-determine-content-based-container-width-2 : (t : ℕ) → probe-anew-lts.Need-sub-determine-content-based-container-width-2 (probe-anew-calls t) (probe-anew-at t) probe-anew.Post
+probe-anew-sub-determine-content-based-container-width-2 t c = let f = facts _ _ _ _ _ _ _ (c .before .before .before .before .before .before .before .before .before .before .before .pre .1) in omega arith
+
+probe-anew-part-determine-content-based-container-width-start-2 : (t : ℕ) → probe-anew-lts.Need-part-determine-content-based-container-width-start-2 (probe-anew-calls t) (probe-anew-at t) probe-anew.Post
+probe-anew-part-determine-content-based-container-width-start-2 t c = let f = facts _ _ _ _ _ _ _ (c .before .before .before .before .before .before .before .before .before .before .before .pre .1) in omega arith
+
+probe-anew-part-determine-content-based-container-width-end-2 : (t : ℕ) → probe-anew-lts.Need-part-determine-content-based-container-width-end-2 (probe-anew-calls t) (probe-anew-at t) probe-anew.Post
+probe-anew-part-determine-content-based-container-width-end-2 t c = let f = facts _ _ _ _ _ _ _ (c .before .before .before .before .before .before .before .before .before .before .before .pre .1) in omega arith
+
+probe-anew-sub-determine-content-based-container-width-3 : (t : ℕ) → probe-anew-lts.Need-sub-determine-content-based-container-width-3 (probe-anew-calls t) (probe-anew-at t) probe-anew.Post
+probe-anew-sub-determine-content-based-container-width-3 t c = let f = facts _ _ _ _ _ _ _ (c .before .before .before .before .before .before .before .before .before .before .before .before .pre .1) in omega arith
+
+probe-anew-part-determine-content-based-container-width-start-3 : (t : ℕ) → probe-anew-lts.Need-part-determine-content-based-container-width-start-3 (probe-anew-calls t) (probe-anew-at t) probe-anew.Post
+probe-anew-part-determine-content-based-container-width-start-3 t c = let f = facts _ _ _ _ _ _ _ (c .before .before .before .before .before .before .before .before .before .before .before .before .pre .1) in omega arith
+
+probe-anew-part-determine-content-based-container-width-end-3 : (t : ℕ) → probe-anew-lts.Need-part-determine-content-based-container-width-end-3 (probe-anew-calls t) (probe-anew-at t) probe-anew.Post
+probe-anew-part-determine-content-based-container-width-end-3 t c = let f = facts _ _ _ _ _ _ _ (c .before .before .before .before .before .before .before .before .before .before .before .before .pre .1) in omega arith
+
+probe-anew-add-determine-content-based-container-width : (t : ℕ) → probe-anew-lts.Need-add-determine-content-based-container-width (probe-anew-calls t) (probe-anew-at t) probe-anew.Post
+probe-anew-add-determine-content-based-container-width t c = let f = facts _ _ _ _ _ _ _ (c .before .before .before .before .before .before .before .before .before .before .before .before .before .pre .1) in omega arith
+
+probe-anew-sub-determine-content-based-container-width-4 : (t : ℕ) → probe-anew-lts.Need-sub-determine-content-based-container-width-4 (probe-anew-calls t) (probe-anew-at t) probe-anew.Post
+probe-anew-sub-determine-content-based-container-width-4 t c = let f = facts _ _ _ _ _ _ _ (c .before .before .before .before .before .before .before .before .before .before .before .before .before .pre .1) in omega arith
+
+probe-anew-determine-content-based-container-width-requires : (t : ℕ) → probe-anew-lts.Need-determine-content-based-container-width-requires (probe-anew-calls t) (probe-anew-at t) probe-anew.Post
+probe-anew-determine-content-based-container-width-requires t c κs = let f = facts _ _ _ _ _ _ _ (c .before .before .before .before .before .before .before .before .before .before .before .before .before .pre .1) in (omega (arith, c .before .before .before .before .before .before .before .before .before .before .before .before .before .pre .0), f .kids)
+
+probe-anew-width-from-requires : (t : ℕ) → probe-anew-lts.Need-width-from-requires (probe-anew-calls t) (probe-anew-at t) probe-anew.Post
+probe-anew-width-from-requires t c κs = search needs
 
 probe-anew-same-length : (t : ℕ) → probe-anew-lts.Need-same-length (probe-anew-calls t) (probe-anew-at t) probe-anew.Post
 probe-anew-same-length t c = let f = facts _ _ _ _ _ _ _ (c .before .before .before .before .before .before .before .before .before .before .before .before .before .before .before .before .pre .1) in omega arith
@@ -249,61 +290,12 @@ probe-anew-same-length-2 : (t : ℕ) → probe-anew-lts.Need-same-length-2 (prob
 probe-anew-same-length-2 t c = let f = facts _ _ _ _ _ _ _ (c .before .before .before .before .before .before .before .before .before .before .before .before .before .before .before .before .pre .1) in omega arith
 
 probe-anew-returns : (t : ℕ) → probe-anew-lts.Need-returns (probe-anew-calls t) (probe-anew-at t) probe-anew.Post
-probe-anew-returns t c = let s = c .before .before .before .before .before .before .before .before .before .before .before .before .before .before .before .before in anew-leaf (s .args .words .now) (s .args .numbers .now) (s .args .rows .now) (s .args .marks .now) (s .args .edits .now) (s .args .base) (s .args .q) _ refl _ _ _ (ap isLeaf (sym (kind-at (s .args .words .now) (s .args .numbers .now) (s .args .base))) ∙ sym (c .before .before .before .before .before .before .before .before .before .before .is-leaf .ensures) ∙ c .before .before .before .before .before .before .before .before .before .if1 .taken) (c .before .before .before .before .before .before .clear-rest .ensures) (c .leaf-width .ensures ∙ ap (λ (m : Measure). leafWidth m (s .args .q .available)) (c .before .measure-at .ensures ∙ measure-at (s .args .words .now) (s .args .numbers .now) (s .args .base)))
-
-probe-anew-probe-known-requires : (t : ℕ) → probe-anew-lts.Need-probe-known-requires (probe-anew-calls t) (probe-anew-at t) probe-anew.Post
-probe-anew-probe-known-requires t c κs = search needs
-
-probe-anew-enum-known-width : (t : ℕ) → probe-anew-lts.Need-enum-known-width (probe-anew-calls t) (probe-anew-at t) probe-anew.Post
-probe-anew-enum-known-width t c = search needs
-
-probe-anew-clear-rest-requires-2 : (t : ℕ) → probe-anew-lts.Need-clear-rest-requires-2 (probe-anew-calls t) (probe-anew-at t) probe-anew.Post
-probe-anew-clear-rest-requires-2 t c κs = let f = facts _ _ _ _ _ _ _ (c .before .before .before .before .before .before .before .before .before .before .before .before .before .before .pre .1) in all-rows (f .room) (f .whole)
-
-probe-anew-enum-told : (t : ℕ) → probe-anew-lts.Need-enum-told (probe-anew-calls t) (probe-anew-at t) probe-anew.Post
-probe-anew-enum-told t c = search needs
-
-probe-anew-available-inside-requires : (t : ℕ) → probe-anew-lts.Need-available-inside-requires (probe-anew-calls t) (probe-anew-at t) probe-anew.Post
-probe-anew-available-inside-requires t c κs = search needs
-
-probe-anew-sub-widest : (t : ℕ) → probe-anew-lts.Need-sub-determine-content-based-container-width (probe-anew-calls t) (probe-anew-at t) probe-anew.Post
-probe-anew-sub-widest t c = let f = facts _ _ _ _ _ _ _ (c .before .before .before .before .before .before .before .before .before .before .before .before .pre .1) in omega arith
-
-probe-anew-part-widest-start : (t : ℕ) → probe-anew-lts.Need-part-determine-content-based-container-width-start (probe-anew-calls t) (probe-anew-at t) probe-anew.Post
-probe-anew-part-widest-start t c = let f = facts _ _ _ _ _ _ _ (c .before .before .before .before .before .before .before .before .before .before .before .before .pre .1) in omega arith
-
-probe-anew-part-widest-end : (t : ℕ) → probe-anew-lts.Need-part-determine-content-based-container-width-end (probe-anew-calls t) (probe-anew-at t) probe-anew.Post
-probe-anew-part-widest-end t c = let f = facts _ _ _ _ _ _ _ (c .before .before .before .before .before .before .before .before .before .before .before .before .pre .1) in omega arith
-
-probe-anew-sub-widest-2 : (t : ℕ) → probe-anew-lts.Need-sub-determine-content-based-container-width-2 (probe-anew-calls t) (probe-anew-at t) probe-anew.Post
-probe-anew-sub-widest-2 t c = let f = facts _ _ _ _ _ _ _ (c .before .before .before .before .before .before .before .before .before .before .before .before .before .pre .1) in omega arith
-
-probe-anew-part-widest-start-2 : (t : ℕ) → probe-anew-lts.Need-part-determine-content-based-container-width-start-2 (probe-anew-calls t) (probe-anew-at t) probe-anew.Post
-probe-anew-part-widest-start-2 t c = let f = facts _ _ _ _ _ _ _ (c .before .before .before .before .before .before .before .before .before .before .before .before .before .pre .1) in omega arith
-
-probe-anew-part-widest-end-2 : (t : ℕ) → probe-anew-lts.Need-part-determine-content-based-container-width-end-2 (probe-anew-calls t) (probe-anew-at t) probe-anew.Post
-probe-anew-part-widest-end-2 t c = let f = facts _ _ _ _ _ _ _ (c .before .before .before .before .before .before .before .before .before .before .before .before .before .pre .1) in omega arith
-
-probe-anew-sub-widest-3 : (t : ℕ) → probe-anew-lts.Need-sub-determine-content-based-container-width-3 (probe-anew-calls t) (probe-anew-at t) probe-anew.Post
-probe-anew-sub-widest-3 t c = let f = facts _ _ _ _ _ _ _ (c .before .before .before .before .before .before .before .before .before .before .before .before .before .before .pre .1) in omega arith
-
-probe-anew-part-widest-start-3 : (t : ℕ) → probe-anew-lts.Need-part-determine-content-based-container-width-start-3 (probe-anew-calls t) (probe-anew-at t) probe-anew.Post
-probe-anew-part-widest-start-3 t c = let f = facts _ _ _ _ _ _ _ (c .before .before .before .before .before .before .before .before .before .before .before .before .before .before .pre .1) in omega arith
-
-probe-anew-part-widest-end-3 : (t : ℕ) → probe-anew-lts.Need-part-determine-content-based-container-width-end-3 (probe-anew-calls t) (probe-anew-at t) probe-anew.Post
-probe-anew-part-widest-end-3 t c = let f = facts _ _ _ _ _ _ _ (c .before .before .before .before .before .before .before .before .before .before .before .before .before .before .pre .1) in omega arith
-
-probe-anew-add-widest : (t : ℕ) → probe-anew-lts.Need-add-determine-content-based-container-width (probe-anew-calls t) (probe-anew-at t) probe-anew.Post
-probe-anew-add-widest t c = let f = facts _ _ _ _ _ _ _ (c .before .before .before .before .before .before .before .before .before .before .before .before .before .before .before .pre .1) in omega arith
-
-probe-anew-sub-widest-4 : (t : ℕ) → probe-anew-lts.Need-sub-determine-content-based-container-width-4 (probe-anew-calls t) (probe-anew-at t) probe-anew.Post
-probe-anew-sub-widest-4 t c = let f = facts _ _ _ _ _ _ _ (c .before .before .before .before .before .before .before .before .before .before .before .before .before .before .before .pre .1) in omega arith
-
-probe-anew-widest-requires : (t : ℕ) → probe-anew-lts.Need-determine-content-based-container-width-requires (probe-anew-calls t) (probe-anew-at t) probe-anew.Post
-probe-anew-widest-requires t c κs = let f = facts _ _ _ _ _ _ _ (c .before .before .before .before .before .before .before .before .before .before .before .before .before .before .before .pre .1) in (omega (arith, c .before .before .before .before .before .before .before .before .before .before .before .before .before .before .before .pre .0), f .kids)
-
-probe-anew-width-from-requires : (t : ℕ) → probe-anew-lts.Need-width-from-requires (probe-anew-calls t) (probe-anew-at t) probe-anew.Post
-probe-anew-width-from-requires t c κs = search needs
+probe-anew-returns t c =
+    let at-clear-rest = c .before .before .before .before in
+    let at-width = c .before .before .before .before .before .before .before .before in
+    let at-once = c .before .before .before .before .before .before .before .before .before .before in
+    let s = c .before .before .before .before .before .before .before .before .before .before .before .before .before .before .before .before in
+    anew-at-once (s .args .words .now) (s .args .numbers .now) (s .args .rows .now) (s .args .marks .now) (s .args .edits .now) (s .args .base) (s .args .q) _ refl _ _ _ (sym (at-once .width-at-once .ensures) ∙ at-width .width .given .1) (at-clear-rest .clear-rest .ensures)
 
 probe-anew-same-length-3 : (t : ℕ) → probe-anew-lts.Need-same-length-3 (probe-anew-calls t) (probe-anew-at t) probe-anew.Post
 probe-anew-same-length-3 t c = let f = facts _ _ _ _ _ _ _ (c .before .before .before .before .before .before .before .before .before .before .before .before .before .before .before .before .before .before .before .pre .1) in omega arith
@@ -312,19 +304,17 @@ probe-anew-same-length-4 : (t : ℕ) → probe-anew-lts.Need-same-length-4 (prob
 probe-anew-same-length-4 t c = let f = facts _ _ _ _ _ _ _ (c .before .before .before .before .before .before .before .before .before .before .before .before .before .before .before .before .before .before .before .pre .1) in omega arith
 
 probe-anew-returns-2 : (t : ℕ) → probe-anew-lts.Need-returns-2 (probe-anew-calls t) (probe-anew-at t) probe-anew.Post
-probe-anew-returns-2 t c = let s = c .before .before .before .before .before .before .before .before .before .before .before .before .before .before .before .before .before .before .before in anew-known (s .args .words .now) (s .args .numbers .now) (s .args .rows .now) (s .args .marks .now) (s .args .edits .now) (s .args .base) (s .args .q) _ (c .before .before .before .before .before .before .before .before .before .before .before .reader-at .ensures .1) _ _ _ _ (ap (λ (y : Style). isLeaf (y .kind)) (c .before .before .before .before .before .before .before .before .before .before .before .reader-at .ensures .1) ∙ ap isLeaf (sym (kind-at (s .args .words .now) (s .args .numbers .now) (s .args .base))) ∙ sym (c .before .before .before .before .before .before .before .before .before .before .before .before .before .is-leaf .ensures) ∙ c .before .before .before .before .before .before .before .before .before .before .before .before .if1 .left) (c .before .before .before .before .before .before .before .before .before .before .probe-known .ensures) (c .before .before .before .before .before .before .before .before .width .given .1) (c .before .before .before .before .clear-rest2 .ensures)
-
-probe-anew-same-length-5 : (t : ℕ) → probe-anew-lts.Need-same-length-5 (probe-anew-calls t) (probe-anew-at t) probe-anew.Post
-probe-anew-same-length-5 t c = let f = facts _ _ _ _ _ _ _ (c .before .before .before .before .before .before .before .before .before .before .before .before .before .before .before .before .before .before .before .before .before .pre .1) in omega arith
-
-probe-anew-same-length-6 : (t : ℕ) → probe-anew-lts.Need-same-length-6 (probe-anew-calls t) (probe-anew-at t) probe-anew.Post
-probe-anew-same-length-6 t c = let f = facts _ _ _ _ _ _ _ (c .before .before .before .before .before .before .before .before .before .before .before .before .before .before .before .before .before .before .before .before .before .pre .1) in omega arith
-
-probe-anew-returns-3 : (t : ℕ) → probe-anew-lts.Need-returns-3 (probe-anew-calls t) (probe-anew-at t) probe-anew.Post
-probe-anew-returns-3 t c = let s = c .before .before .before .before .before .before .before .before .before .before .before .before .before .before .before .before .before .before .before .before .before in anew-below (s .args .words .now) (s .args .numbers .now) (s .args .rows .now) (s .args .marks .now) (s .args .edits .now) (s .args .base) (s .args .q) _ (c .before .before .before .before .before .before .before .before .before .before .before .before .before .reader-at .ensures .1) _ _ _ _ _ _ (ap (λ (y : Style). isLeaf (y .kind)) (c .before .before .before .before .before .before .before .before .before .before .before .before .before .reader-at .ensures .1) ∙ ap isLeaf (sym (kind-at (s .args .words .now) (s .args .numbers .now) (s .args .base))) ∙ sym (c .before .before .before .before .before .before .before .before .before .before .before .before .before .before .before .is-leaf .ensures) ∙ c .before .before .before .before .before .before .before .before .before .before .before .before .before .before .if1 .left) (c .before .before .before .before .before .before .before .before .before .before .before .before .probe-known .ensures) (c .before .before .before .before .before .before .before .before .before .before .enum-told .given .1) (c .before .before .before .before .before .before .before .before .before .available-inside .ensures) (c .before .before .before .before .before .determine-content-based-container-width .ensures) (c .width-from .ensures)
+probe-anew-returns-2 t c =
+    let at-widest = c .before .before .before .before .before in
+    let at-inside = c .before .before .before .before .before .before .before .before .before in
+    let at-reader-at = c .before .before .before .before .before .before .before .before .before .before in
+    let at-told = c .before .before .before .before .before .before .before .before .before .before .before in
+    let at-once = c .before .before .before .before .before .before .before .before .before .before .before .before .before in
+    let s = c .before .before .before .before .before .before .before .before .before .before .before .before .before .before .before .before .before .before .before in
+    anew-inside (s .args .words .now) (s .args .numbers .now) (s .args .rows .now) (s .args .marks .now) (s .args .edits .now) (s .args .base) (s .args .q) _ (at-reader-at .reader-at .ensures .1) _ _ _ _ _ (ap (λ (z : Style). widthAtOnce z (s .args .q)) (at-reader-at .reader-at .ensures .1) ∙ sym (at-once .width-at-once .ensures) ∙ at-told .enum-told .given .1) (at-inside .available-inside .ensures) (at-widest .determine-content-based-container-width .ensures) (c .width-from .ensures)
 
 abbrev widen-calls : ℕ → widen-lts.Claims
-widen-calls t = (reader-at-reads.Asked, reader-at-reads.Learnt, want-of-reads.Asked, want-of-reads.Learnt, clear-probes-reads.Asked, clear-probes-reads.Learnt, f32-max-reads.Asked, f32-max-reads.Learnt, probe-below t, probe.Post, outer-width-reads.Asked, outer-width-reads.Learnt)
+widen-calls t = (reader-at-reads.Asked, reader-at-reads.Learnt, want-of-reads.Asked, want-of-reads.Learnt, probe-below t, probe.Post, outer-width-reads.Asked, outer-width-reads.Learnt, f32-max-reads.Asked, f32-max-reads.Learnt, clear-probes-reads.Asked, clear-probes-reads.Learnt, most-past-reads.Asked, most-past-reads.Learnt)
 
 widen-reader-at-requires : (t : ℕ) → widen-lts.Need-reader-at-requires (widen-calls t) (widen-at t) widen.Post
 widen-reader-at-requires t c κs = let f = facts _ _ _ _ _ _ _ (c .before .before .before .before .before .pre .1) in (f .words-some, f .reach)
@@ -332,63 +322,57 @@ widen-reader-at-requires t c κs = let f = facts _ _ _ _ _ _ _ (c .before .befor
 widen-want-of-requires : (t : ℕ) → widen-lts.Need-want-of-requires (widen-calls t) (widen-at t) widen.Post
 widen-want-of-requires t c κs = search needs
 
-widen-enum-told : (t : ℕ) → widen-lts.Need-enum-told (widen-calls t) (widen-at t) widen.Post
-widen-enum-told t c = search needs
-
-widen-clear-probes-requires : (t : ℕ) → widen-lts.Need-clear-probes-requires (widen-calls t) (widen-at t) widen.Post
-widen-clear-probes-requires t c κs = let f = facts _ _ _ _ _ _ _ (c .before .before .before .before .before .before .before .before .before .before .before .pre .1) in f .whole
-
 widen-enum-known-want : (t : ℕ) → widen-lts.Need-enum-known-want (widen-calls t) (widen-at t) widen.Post
 widen-enum-known-want t c = search needs
 
-widen-clear-probes-requires-2 : (t : ℕ) → widen-lts.Need-clear-probes-requires-2 (widen-calls t) (widen-at t) widen.Post
-widen-clear-probes-requires-2 t c κs = let f = facts _ _ _ _ _ _ _ (c .before .before .before .before .before .before .before .before .before .before .before .before .pre .1) in f .whole
-
-widen-f32-max-requires : (t : ℕ) → widen-lts.Need-f32-max-requires (widen-calls t) (widen-at t) widen.Post
-widen-f32-max-requires t c κs = search needs
-
-widen-enum-known-want-2 : (t : ℕ) → widen-lts.Need-enum-known-want-2 (widen-calls t) (widen-at t) widen.Post
-widen-enum-known-want-2 t c = search needs
-
 widen-probe-requires : (t : ℕ) → widen-lts.Need-probe-requires (widen-calls t) (widen-at t) widen.Post
-widen-probe-requires t c κs = (omega (arith, c .before .before .before .before .before .before .before .before .before .before .before .before .pre .0), (c .before .before .before .before .before .before .before .before .before .before .before .before .pre .1))
+widen-probe-requires t c κs = (omega (arith, c .before .before .before .before .before .before .before .before .before .before .before .before .pre .0), c .before .before .before .before .before .before .before .before .before .before .before .before .pre .1)
 
 widen-outer-width-requires : (t : ℕ) → widen-lts.Need-outer-width-requires (widen-calls t) (widen-at t) widen.Post
 widen-outer-width-requires t c κs = search needs
 
-widen-f32-max-requires-2 : (t : ℕ) → widen-lts.Need-f32-max-requires-2 (widen-calls t) (widen-at t) widen.Post
-widen-f32-max-requires-2 t c κs = search needs
+widen-f32-max-requires : (t : ℕ) → widen-lts.Need-f32-max-requires (widen-calls t) (widen-at t) widen.Post
+widen-f32-max-requires t c κs = search needs
 
 widen-same-length : (t : ℕ) → widen-lts.Need-same-length (widen-calls t) (widen-at t) widen.Post
-widen-same-length t c = let f = facts _ _ _ _ _ _ _ (c .before .before .before .before .before .before .before .before .before .before .before .before .before .before .before .before .pre .1) in omega arith
+widen-same-length t c = let f = facts _ _ _ _ _ _ _ (c .before .before .before .before .before .before .before .before .before .before .before .before .before .before .before .before .before .before .before .pre .1) in omega arith
 
 widen-same-length-2 : (t : ℕ) → widen-lts.Need-same-length-2 (widen-calls t) (widen-at t) widen.Post
-widen-same-length-2 t c = let f = facts _ _ _ _ _ _ _ (c .before .before .before .before .before .before .before .before .before .before .before .before .before .before .before .before .pre .1) in omega arith
+widen-same-length-2 t c = let f = facts _ _ _ _ _ _ _ (c .before .before .before .before .before .before .before .before .before .before .before .before .before .before .before .before .before .before .before .pre .1) in omega arith
 
 widen-returns : (t : ℕ) → widen-lts.Need-returns (widen-calls t) (widen-at t) widen.Post
-widen-returns t c = let s = c .before .before .before .before .before .before .before .before .before .before .before .before .before .before .before .before in widened-nothing (s .args .words .now) (s .args .numbers .now) (s .args .rows .now) (s .args .marks .now) (s .args .edits .now) (s .args .base) (s .args .a) (s .args .most) _ _ _ _ (c .before .before .before .before .before .before .before .before .before .before .reader-at .ensures .1) (c .before .before .before .before .before .before .before .before .before .want-of .ensures) (c .before .before .before .before .before .before .before .enum-told .given .1) (c .before .before .before .before .clear-probes .ensures)
+widen-returns t c =
+    let at-want-of = c .before .before .before .before .before .before .before .before .before .before .before .before in
+    let at-reader-at = at-want-of .before in
+    let s = c .before .before .before .before .before .before .before .before .before .before .before .before .before .before .before .before .before .before .before in
+    let at-probe = c .before .before .before .before .before .before in
+    let at-want = c .before .before .before .before .before .before .before .before .before .before in
+    widened-probe (s .args .words .now) (s .args .numbers .now) (s .args .rows .now) (s .args .marks .now) (s .args .edits .now) (s .args .base) (s .args .a) (s .args .most) _ _ _ _ (at-reader-at .reader-at .ensures .1) (at-want-of .want-of .ensures) _ _ _ _ (at-want .want .given .1) (at-probe .probe .ensures) (c .before .outer-width .ensures) (c .f32-max .ensures)
+
+widen-clear-probes-requires : (t : ℕ) → widen-lts.Need-clear-probes-requires (widen-calls t) (widen-at t) widen.Post
+widen-clear-probes-requires t c κs = let f = facts _ _ _ _ _ _ _ (c .before .before .before .before .before .before .before .before .before .before .pre .1) in f .whole
+
+widen-most-past-requires : (t : ℕ) → widen-lts.Need-most-past-requires (widen-calls t) (widen-at t) widen.Post
+widen-most-past-requires t c κs = search needs
 
 widen-same-length-3 : (t : ℕ) → widen-lts.Need-same-length-3 (widen-calls t) (widen-at t) widen.Post
-widen-same-length-3 t c = let f = facts _ _ _ _ _ _ _ (c .before .before .before .before .before .before .before .before .before .before .before .before .before .before .before .before .before .before .pre .1) in omega arith
+widen-same-length-3 t c = let f = facts _ _ _ _ _ _ _ (c .before .before .before .before .before .before .before .before .before .before .before .before .before .before .before .before .pre .1) in omega arith
 
 widen-same-length-4 : (t : ℕ) → widen-lts.Need-same-length-4 (widen-calls t) (widen-at t) widen.Post
-widen-same-length-4 t c = let f = facts _ _ _ _ _ _ _ (c .before .before .before .before .before .before .before .before .before .before .before .before .before .before .before .before .before .before .pre .1) in omega arith
+widen-same-length-4 t c = let f = facts _ _ _ _ _ _ _ (c .before .before .before .before .before .before .before .before .before .before .before .before .before .before .before .before .pre .1) in omega arith
 
 widen-returns-2 : (t : ℕ) → widen-lts.Need-returns-2 (widen-calls t) (widen-at t) widen.Post
-widen-returns-2 t c = let s = c .before .before .before .before .before .before .before .before .before .before .before .before .before .before .before .before .before .before in widened-outer (s .args .words .now) (s .args .numbers .now) (s .args .rows .now) (s .args .marks .now) (s .args .edits .now) (s .args .base) (s .args .a) (s .args .most) _ _ _ _ (c .before .before .before .before .before .before .before .before .before .before .before .before .reader-at .ensures .1) (c .before .before .before .before .before .before .before .before .before .before .before .want-of .ensures) _ _ (c .before .before .before .before .before .before .before .before .before .want .given .1) (c .before .before .before .before .before .clear-probes2 .ensures) (c .f32-max .ensures)
-
-widen-same-length-5 : (t : ℕ) → widen-lts.Need-same-length-5 (widen-calls t) (widen-at t) widen.Post
-widen-same-length-5 t c = let f = facts _ _ _ _ _ _ _ (c .before .before .before .before .before .before .before .before .before .before .before .before .before .before .before .before .before .before .before .pre .1) in omega arith
-
-widen-same-length-6 : (t : ℕ) → widen-lts.Need-same-length-6 (widen-calls t) (widen-at t) widen.Post
-widen-same-length-6 t c = let f = facts _ _ _ _ _ _ _ (c .before .before .before .before .before .before .before .before .before .before .before .before .before .before .before .before .before .before .before .pre .1) in omega arith
-
-widen-returns-3 : (t : ℕ) → widen-lts.Need-returns-3 (widen-calls t) (widen-at t) widen.Post
-widen-returns-3 t c = let s = c .before .before .before .before .before .before .before .before .before .before .before .before .before .before .before .before .before .before .before in widened-probe (s .args .words .now) (s .args .numbers .now) (s .args .rows .now) (s .args .marks .now) (s .args .edits .now) (s .args .base) (s .args .a) (s .args .most) _ _ _ _ (c .before .before .before .before .before .before .before .before .before .before .before .before .before .reader-at .ensures .1) (c .before .before .before .before .before .before .before .before .before .before .before .before .want-of .ensures) _ _ _ _ (c .before .before .before .before .before .before .before .before .before .before .want2 .given .1) (c .before .before .before .before .before .before .probe .ensures) (c .before .outer-width .ensures) (c .f32-max2 .ensures)
+widen-returns-2 t c =
+    let at-want-of = c .before .before .before .before .before .before .before .before .before in
+    let at-reader-at = at-want-of .before in
+    let s = c .before .before .before .before .before .before .before .before .before .before .before .before .before .before .before .before in
+    let at-clear-probes = c .before .before .before .before .before in
+    let at-match = c .before .before .before .before .before .before .before .before in
+    widened-past (s .args .words .now) (s .args .numbers .now) (s .args .rows .now) (s .args .marks .now) (s .args .edits .now) (s .args .base) (s .args .a) (s .args .most) _ _ _ _ (at-reader-at .reader-at .ensures .1) (at-want-of .want-of .ensures) _ (at-match .match .keys2) (at-clear-probes .clear-probes .ensures) (c .most-past .ensures)
 
 pub +determine-content-based-container-width+probe+probe-anew+widen-spec : {M : Type 1} → statement M
 +determine-content-based-container-width+probe+probe-anew+widen-spec = close μ-widest μ-probe μ-probe-anew μ-widen
     (λ t. widest-lts.spec (widest-calls t) (widest-at t) widest.Post widest-Inv-loop widest-μ-loop (widest-loop-holds t) (widest-mul-loop t) (widest-word-in-requires t) (widest-cast-e t) (widest-add-e t) (widest-mul-i4 t) (widest-mul-e4 t) (widest-mul-i16 t) (widest-mul-e16 t) (widest-mul-i2 t) (widest-mul-e2 t) (widest-mul-widen t) (widest-sub-widen t) (widest-part-widen-start t) (widest-part-widen-end t) (widest-mul-widen-2 t) (widest-sub-widen-2 t) (widest-part-widen-start-2 t) (widest-part-widen-end-2 t) (widest-mul-widen-3 t) (widest-sub-widen-3 t) (widest-part-widen-start-3 t) (widest-part-widen-end-3 t) (widest-add-widen t) (widest-widen-requires t) (widest-loop-less t) (widest-loop-again t) (widest-same-length t) (widest-same-length-2 t) (widest-returns t))
     (λ t. probe-lts.spec (probe-calls t) (probe-at t) probe.Post (probe-stands-requires t) (probe-slice-read-result t) (probe-same-length t) (probe-same-length-2 t) (probe-returns t) (probe-probe-anew-requires t) (probe-note-probe-requires t) (probe-same-length-3 t) (probe-same-length-4 t) (probe-returns-2 t))
-    (λ t. probe-anew-lts.spec (probe-anew-calls t) (probe-anew-at t) probe-anew.Post (probe-anew-is-leaf-requires t) (probe-anew-clear-rest-requires t) (probe-anew-measure-at-requires t) (probe-anew-leaf-width-requires t) (probe-anew-same-length t) (probe-anew-same-length-2 t) (probe-anew-returns t) (probe-anew-reader-at-requires t) (probe-anew-probe-known-requires t) (probe-anew-enum-known-width t) (probe-anew-clear-rest-requires-2 t) (probe-anew-enum-told t) (probe-anew-available-inside-requires t) (probe-anew-sub-widest t) (probe-anew-part-widest-start t) (probe-anew-part-widest-end t) (probe-anew-sub-widest-2 t) (probe-anew-part-widest-start-2 t) (probe-anew-part-widest-end-2 t) (probe-anew-sub-widest-3 t) (probe-anew-part-widest-start-3 t) (probe-anew-part-widest-end-3 t) (probe-anew-add-widest t) (probe-anew-sub-widest-4 t) (probe-anew-widest-requires t) (probe-anew-width-from-requires t) (probe-anew-same-length-3 t) (probe-anew-same-length-4 t) (probe-anew-returns-2 t) (probe-anew-same-length-5 t) (probe-anew-same-length-6 t) (probe-anew-returns-3 t))
-    λ t. widen-lts.spec (widen-calls t) (widen-at t) widen.Post (widen-reader-at-requires t) (widen-want-of-requires t) (widen-enum-told t) (widen-clear-probes-requires t) (widen-enum-known-want t) (widen-clear-probes-requires-2 t) (widen-f32-max-requires t) (widen-enum-known-want-2 t) (widen-probe-requires t) (widen-outer-width-requires t) (widen-f32-max-requires-2 t) (widen-same-length t) (widen-same-length-2 t) (widen-returns t) (widen-same-length-3 t) (widen-same-length-4 t) (widen-returns-2 t) (widen-same-length-5 t) (widen-same-length-6 t) (widen-returns-3 t)
+    (λ t. probe-anew-lts.spec (probe-anew-calls t) (probe-anew-at t) probe-anew.Post (probe-anew-width-at-once-requires t) (probe-anew-enum-known-width t) (probe-anew-clear-rest-requires t) (probe-anew-enum-told t) (probe-anew-reader-at-requires t) (probe-anew-available-inside-requires t) (probe-anew-sub-determine-content-based-container-width t) (probe-anew-part-determine-content-based-container-width-start t) (probe-anew-part-determine-content-based-container-width-end t) (probe-anew-sub-determine-content-based-container-width-2 t) (probe-anew-part-determine-content-based-container-width-start-2 t) (probe-anew-part-determine-content-based-container-width-end-2 t) (probe-anew-sub-determine-content-based-container-width-3 t) (probe-anew-part-determine-content-based-container-width-start-3 t) (probe-anew-part-determine-content-based-container-width-end-3 t) (probe-anew-add-determine-content-based-container-width t) (probe-anew-sub-determine-content-based-container-width-4 t) (probe-anew-determine-content-based-container-width-requires t) (probe-anew-width-from-requires t) (probe-anew-same-length t) (probe-anew-same-length-2 t) (probe-anew-returns t) (probe-anew-same-length-3 t) (probe-anew-same-length-4 t) (probe-anew-returns-2 t))
+    λ t. widen-lts.spec (widen-calls t) (widen-at t) widen.Post (widen-reader-at-requires t) (widen-want-of-requires t) (widen-enum-known-want t) (widen-probe-requires t) (widen-outer-width-requires t) (widen-f32-max-requires t) (widen-same-length t) (widen-same-length-2 t) (widen-returns t) (widen-clear-probes-requires t) (widen-most-past-requires t) (widen-same-length-3 t) (widen-same-length-4 t) (widen-returns-2 t)

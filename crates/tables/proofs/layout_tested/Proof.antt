@@ -2,6 +2,7 @@ use mathlib.Core.Path.{sym, _∙_}
 use Rattle.tables.proofs.Passing.{sized, good-table}
 use Rattle.steps.specs.Noes.{layoutTested, andThen}
 use borrow.Author.Needs.{needs}
+use native.Mathlib.Omega.{arith}
 use Rattle.tables.proofs.layout_tested.Statement.{statement}
 use Rattle.tables.proofs.layout_tested.Tie as tie
 
@@ -20,7 +21,10 @@ unfolding layoutTested andThen
 returns-2 c = rw (← c .before .before .before .bad-tables .ensures, ← c .before .bad-rows .ensures, c .if2 .taken, c .before .before .if1 .left)
 
 page-tested-requires : tie.Need-page-tested-requires
-page-tested-requires c κs = sized (c .before .before .before .before .before .before .before .before .before .before .args .words .now) (c .before .before .before .before .before .before .before .before .before .before .args .numbers .now) (sym (c .before .before .before .bad-tables .ensures) ∙ c .before .before .if1 .left) .few
+page-tested-requires c κs =
+    let a = c .before .before .before .before .before .before .before .before .before .before .args in
+    let s = sized (a .words .now) (a .numbers .now) (sym (c .before .before .before .bad-tables .ensures) ∙ c .before .before .if1 .left) in
+    (s .few, omega (arith, s .numbers))
 
 enum-known-a : tie.Need-enum-known-a
 enum-known-a c = search needs

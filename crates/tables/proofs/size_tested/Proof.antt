@@ -2,6 +2,7 @@ use mathlib.Core.Path.{sym, _∙_}
 use Rattle.tables.proofs.Passing.{sized}
 use Rattle.steps.specs.Noes.{sizeTested, andThen}
 use borrow.Author.Needs.{needs}
+use native.Mathlib.Omega.{arith}
 use Rattle.tables.proofs.size_tested.Statement.{statement}
 use Rattle.tables.proofs.size_tested.Tie as tie
 
@@ -13,7 +14,10 @@ unfolding sizeTested andThen
 returns c = rw (← c .before .bad-tables .ensures, c .if1 .taken)
 
 page-tested-requires : tie.Need-page-tested-requires
-page-tested-requires c κs = sized (c .before .before .before .before .args .words .now) (c .before .before .before .before .args .numbers .now) (sym (c .before .bad-tables .ensures) ∙ c .if1 .left) .few
+page-tested-requires c κs =
+    let a = c .before .before .before .before .args in
+    let s = sized (a .words .now) (a .numbers .now) (sym (c .before .bad-tables .ensures) ∙ c .if1 .left) in
+    (s .few, omega (arith, s .numbers))
 
 returns-2 : tie.Need-returns-2
 unfolding sizeTested andThen

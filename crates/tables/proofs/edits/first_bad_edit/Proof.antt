@@ -8,7 +8,7 @@ use lib.ListN.{length}
 use Rattle.steps.specs.Scan.{scan, firstOf}
 use Rattle.steps.specs.Noes.{badEdit}
 use Rattle.steps.specs.declared.Spot.the-variants.{Nowhere, At}
-use Rattle.tables.proofs.ScanLaws.{pass, here, over, start}
+use Rattle.scans.specs.Scans.{pass, here, over, start}
 use Rattle.tables.proofs.edits.first_bad_edit.Statement.{statement}
 use Rattle.tables.proofs.edits.first_bad_edit.Tie as tie
 

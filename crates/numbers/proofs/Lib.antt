@@ -1,0 +1,3 @@
+pub mod FieldSplit
+pub mod UnitWords
+pub mod FieldRuns
