@@ -1,4 +1,4 @@
-// Where align-content moves the content (the crate's src/compute/common/alignment.rs).
+// Where align-content moves the content (compute_block_align_content_offset of the crate's src/compute/block.rs, with its fallback from common/alignment.rs).
 ghost use mathlib.Core.Path.{_≡_};
 ghost use Rattle.alignment.specs.Align.{roomOf, alignShift};
 use style::AlignContent;
@@ -17,7 +17,7 @@ fn room_of(safe: bool, free: f32) -> f32
 }
 
 // The stack is one subject, so words that distribute space act as their fallbacks.
-pub fn compute_alignment_offset(align: AlignContent, safe: bool, free: f32) -> OptionF32
+pub fn compute_block_align_content_offset(align: AlignContent, safe: bool, free: f32) -> OptionF32
     ensures { λ r. ⌜ r ≡ alignShift align safe free ⌝ }
 {
     match align {

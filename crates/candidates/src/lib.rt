@@ -55,14 +55,14 @@ pub fn gather(
 {
     let mut used = 0usize;
     let mut a = 0usize;
-    while 4 * a < words.len() {
-        let e = a + style::word(words, a, 0) as usize;
-        let a4 = 4 * a;
-        let e4 = 4 * e;
-        let a16 = 16 * a;
-        let e16 = 16 * e;
-        let a2 = 2 * a;
-        let e2 = 2 * e;
+    while style::WORDS * a < words.len() {
+        let e = a + style::word(words, a, style::SIZE) as usize;
+        let a4 = style::WORDS * a;
+        let e4 = style::WORDS * e;
+        let a16 = style::ROW * a;
+        let e16 = style::ROW * e;
+        let a2 = style::MARKS * a;
+        let e2 = style::MARKS * e;
         let u2 = 2 * used;
         let u3 = 3 * used;
         used += gather_child(
@@ -91,11 +91,11 @@ fn gather_child(
     ensures { λ r. ⌜ GathersT (now (words .entry)) (now (rows .entry)) (now (marks .entry)) base (now (pairs .entry)) (now (triples .entry)) r (now (pairs .exit)) (now (triples .exit)) ⌝ }
 {
     let bits = marks[1];
-    if style::flag(bits, 0) {
+    if style::flag(bits, steps::LAID) {
         let n = gather(
-            &words[4..],
-            &rows[16..],
-            &marks[2..],
+            &words[style::WORDS..],
+            &rows[style::ROW..],
+            &marks[style::MARKS..],
             base + 1,
             pairs,
             triples,
@@ -103,7 +103,7 @@ fn gather_child(
         move_records(triples, n, rows[0], rows[1]);
         return n;
     }
-    if style::flag(bits, 2) {
+    if style::flag(bits, steps::OUT_OF_FLOW) {
         let node = NodeId(base as u32);
         let order = Order(marks[0]);
         let edges = Line {

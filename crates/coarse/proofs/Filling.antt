@@ -1,9 +1,7 @@
 -- The output filled from the front, a box at a time.
 --     put-box      one box more
 --     all-put      no box is left
---     put-where    the same of a walk that puts boxes or only tests
 use mathlib.Core.Path.{_≡_, refl, sym, ap, _∙_}
-use mathlib.Core.Bool.{Bool, true, false, cond, not, _&&_, true≢false}
 use mathlib.Core.List.{List, [], _∷_, _++_, append-assoc, append-nil}
 use Prim.Native.Nat.{ℕ, zero, suc, _+_, _*_, _<_, _≤_}
 use native.Mathlib.Numerals.{add-one}
@@ -81,28 +79,8 @@ module _ (box : ℕ → PixelBox) where
   pub all-put : (lent : List ℤ) (n i : ℕ) → length lent ≡ 4 * n → i ≡ n → boxesOf box 0 i ++ drop (4 * i) lent ≡ boxesOf box 0 n
   all-put lent n i h e = ap (λ (d : List ℤ). boxesOf box 0 i ++ d) (drop-of-length-le lent {i = 4 * i} (omega arith)) ∙ append-nil (boxesOf box 0 i) ∙ ap (boxesOf box 0) e
 
-  -- the same, where boxes are put; where not, all stays as lent
-  pub none-where : (put : Bool) (lent : List ℤ) → lent ≡ cond put (boxesOf box 0 0 ++ drop (4 * 0) lent) lent
-  none-where true lent = sym (ap (λ (l : List ℤ). l ++ lent) (no-boxes 0))
-  none-where false lent = refl
-
-  pub put-where : (put : Bool) (lent out : List ℤ) (n i : ℕ) → length lent ≡ 4 * n → i < n → out ≡ cond put (boxesOf box 0 i ++ drop (4 * i) lent) lent
-      → cond put (boxPut out i (box i)) out ≡ cond put (boxesOf box 0 (i + 1) ++ drop (4 * (i + 1)) lent) lent
-  put-where true lent out n i h l e = put-box lent out n i h l e
-  put-where false lent out n i h l e = e
-
-  pub all-where : (put : Bool) (lent : List ℤ) (n i : ℕ) → length lent ≡ 4 * n → i ≡ n → cond put (boxesOf box 0 i ++ drop (4 * i) lent) lent ≡ cond put (boxesOf box 0 n) lent
-  all-where true lent n i h e = all-put lent n i h e
-  all-where false lent n i h e = refl
-
-  pub stopped : (put far : Bool) (b : PixelBox) (lent out : List ℤ) (n i : ℕ) → (not put && far) ≡ true → out ≡ cond put (boxesOf box 0 i ++ drop (4 * i) lent) lent
-      → cond put (boxPut out i b) out ≡ cond put (boxesOf box 0 n) lent
-  stopped true far b lent out n i s e = absurd (true≢false (sym s))
-  stopped false far b lent out n i s e = e
-
-pub length-where : (put : Bool) (out : List ℤ) (i : ℕ) (b : PixelBox) → length (cond put (boxPut out i b) out) ≡ length out
-length-where true out i b = simp length-set
-length-where false out i b = refl
+pub length-put : (out : List ℤ) (i : ℕ) (b : PixelBox) → length (boxPut out i b) ≡ length out
+length-put out i b = simp length-set
 
 -- boxes that agree below n
 pub boxes-same : (f g : ℕ → PixelBox) (j n : ℕ) → ((i : ℕ) → j ≤ i → i < j + n → f i ≡ g i) → boxesOf f j n ≡ boxesOf g j n

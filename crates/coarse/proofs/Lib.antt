@@ -6,3 +6,4 @@ pub mod OfTree
 pub mod Testing
 pub mod Making
 pub mod Leaving
+pub mod Settled

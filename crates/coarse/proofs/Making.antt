@@ -59,12 +59,12 @@ module _ (ws : List ℕ) (rs : List Float) (ms : List ℕ) (lent : List ℤ) whe
   shown e out q =
       let near = none-far e in
       let same = boxes-same (λ i. seenOf (edgeBy ws rs) rs ms i .place) (boxOf (edgeBy ws rs) rs ms) 0 (nodesIn ws) (λ i a b. box-seen (edgeBy ws rs) rs ms i (near i (omega arith))) in
-      rw e (record { answer-is = refl; out-is = q ∙ same ∙ boxes-are ws rs ms (accepted e .good) })
+      rw e (record { answer-is = refl; paper-is = refl; out-is = q ∙ same ∙ boxes-are ws rs ms (accepted e .good) })
 
   pub refused : (a : Answer) → coarseAnswer ws rs ms (length lent) ≡ Refused a → Coarsened (coarseResult ws rs ms lent) (Refused a) lent
   unfolding coarseResult byAnswer
-  refused a e = rw e (record { answer-is = refl; out-is = refl })
+  refused a e = rw e (record { answer-is = refl; paper-is = refl; out-is = refl })
 
   pub too-far : (i : NodeId) → coarseAnswer ws rs ms (length lent) ≡ TooFar i → Coarsened (coarseResult ws rs ms lent) (TooFar i) lent
   unfolding coarseResult byAnswer
-  too-far i e = rw e (record { answer-is = refl; out-is = refl })
+  too-far i e = rw e (record { answer-is = refl; paper-is = refl; out-is = refl })

@@ -70,7 +70,8 @@ byAnswer (TooFar i) new lent = record { answer = TooFar i; out = lent }
 unfoldable pub coarseResult : List ℕ → List Float → List ℕ → List ℤ → Panel
 coarseResult ws rs ms lent = byAnswer (coarseAnswer ws rs ms (length lent)) (boxesOf (boxAt ws rs ms) 0 (nodesIn ws)) lent
 
--- what the call promises: the answer and every number of the output are the definition's
+-- what the call promises: the answer, by its number and place too, and every number of the output are the definition's
 pub record Coarsened (want : Panel) (answer : CoarseAnswer) (out : List ℤ) : Type 0 where
   pub answer-is : answer ≡ want .answer
+  pub paper-is : coarsePaper answer ≡ coarsePaper (want .answer)
   pub out-is : out ≡ want .out

@@ -1,14 +1,15 @@
 // The coarse panel: each laid node as a box of whole pixels.
 ghost use mathlib.Core.Path.{_≡_};
-ghost use mathlib.Core.Bool.{cond, not, _&&_, _||_};
+ghost use mathlib.Core.Bool.{_||_};
 ghost use Prim.Native.Nat.{_+_, _*_, _<_, _≤_};
 ghost use lib.ListN.{length};
+ghost use Rattle.steps.specs.Scan.{lowest};
 ghost use Rattle.steps.specs.Page.{nodesIn};
 ghost use Rattle.steps.specs.Noes.{holds, badTree};
 ghost use Rattle.tables.specs.Refusals.{Sound};
 ghost use Rattle.edges.specs.Edges.{edgeBy};
-ghost use Rattle.coarse.specs.Panel.{laidAt, spanOf, tooFar};
-ghost use Rattle.coarse.specs.Spans.{pixelSpan, boxBy, seenBy, seenOf, boxPut, Walked};
+ghost use Rattle.coarse.specs.Panel.{laidAt, spanOf, tooFar, farNode, boxesOf};
+ghost use Rattle.coarse.specs.Spans.{pixelSpan, boxBy, seenBy, seenOf, seenPlace, boxPut};
 ghost use Rattle.coarse.specs.Above.{stacked, trimmed, climbed};
 ghost use Rattle.coarse.specs.Coarse.{badOut, coarseAnswer, coarseResult, Coarsened};
 use edges::row_number;
@@ -56,7 +57,7 @@ fn is_laid(marks: &[u32], i: usize) -> bool
     requires { ⌜ i ≤ 1024 ⌝ }
     ensures { λ r. ⌜ r ≡ laidAt (now (marks .entry)) i ⌝ }
 {
-    flag(lent::word_at(marks, 2 * i + 1), 0)
+    flag(lent::word_at(marks, style::MARKS * i + 1), steps::LAID)
 }
 
 fn wide(x: u32) -> usize
@@ -87,7 +88,7 @@ fn still_above(words: &[u32], up: &[u32; 32], d: usize, i: usize) -> usize
     let mut k = d;
     while 0 < k {
         let j = wide(up[k - 1]);
-        if i < j + wide(word(words, j, 0)) {
+        if i < j + wide(word(words, j, style::SIZE)) {
             return k;
         }
         k -= 1;
@@ -199,29 +200,34 @@ fn put_box(out: &mut [i32], i: usize, b: PixelBox)
     out[4 * i + 3] = height;
 }
 
-// The box, where boxes are put.
-fn put_where(put: bool, out: &mut [i32], i: usize, b: PixelBox)
-    requires { ⌜ 4 * i + 4 ≤ length (now out) ⌝ }
-    ensures { λ _. ⌜ now (out .exit) ≡ cond put (boxPut (now (out .entry)) i b) (now (out .entry)) ⌝ }
+// 12: the lowest of n nodes that is laid and has an edge too far.
+fn first_too_far(words: &[u32], rows: &[f32], marks: &[u32], n: usize) -> Found
+    requires few { ⌜ n ≤ 1024 ⌝ }
+    requires tree { ⌜ (nodesIn (now words) ≡ n) × Sound (badTree (now words)) n ⌝ }
+    ensures { λ r. ⌜ r ≡ lowest (farNode (edgeBy (now (words .entry)) (now (rows .entry))) (now (rows .entry)) (now (marks .entry))) n ⌝ }
 {
-    if put {
-        put_box(out, i, b);
+    let mut up = [0u32; 32];
+    let mut d = 0usize;
+    let mut i = 0usize;
+    while i < n {
+        d = still_above(words, &up, d, i);
+        let s = seen_at(rows, marks, &up, d, i);
+        if s.far {
+            return Found::At(NodeId(i as u32));
+        }
+        up[d] = i as u32;
+        d += 1;
+        i += 1;
     }
+    Found::Nowhere
 }
 
-// 12 ends the walk that tests.
-fn stops(put: bool, far: bool) -> bool
-    ensures { λ r. ⌜ r ≡ (not put && far) ⌝ }
-{
-    !put && far
-}
-
-// One walk over n nodes, made twice: to find the lowest of 12, and then to put the boxes.
-fn walk(words: &[u32], rows: &[f32], marks: &[u32], n: usize, out: &mut [i32], put: bool) -> Found
+// The boxes of n nodes, by the same way down.
+fn put_boxes(words: &[u32], rows: &[f32], marks: &[u32], n: usize, out: &mut [i32])
     requires few { ⌜ n ≤ 1024 ⌝ }
     requires tree { ⌜ (nodesIn (now words) ≡ n) × Sound (badTree (now words)) n ⌝ }
     requires long { ⌜ length (now out) ≡ 4 * n ⌝ }
-    ensures { λ r. ⌜ Walked put (seenOf (edgeBy (now (words .entry)) (now (rows .entry))) (now (rows .entry)) (now (marks .entry))) n r (now (out .entry)) (now (out .exit)) ⌝ }
+    ensures { λ _. ⌜ now (out .exit) ≡ boxesOf (seenPlace (edgeBy (now (words .entry)) (now (rows .entry))) (now (rows .entry)) (now (marks .entry))) 0 n ⌝ }
 {
     let mut up = [0u32; 32];
     let mut d = 0usize;
@@ -230,15 +236,11 @@ fn walk(words: &[u32], rows: &[f32], marks: &[u32], n: usize, out: &mut [i32], p
         d = still_above(words, &up, d, i);
         let s = seen_at(rows, marks, &up, d, i);
         let place = s.place;
-        put_where(put, out, i, place);
-        if stops(put, s.far) {
-            return Found::At(NodeId(i as u32));
-        }
+        put_box(out, i, place);
         up[d] = i as u32;
         d += 1;
         i += 1;
     }
-    Found::Nowhere
 }
 
 // 1: the output has not 4 numbers for each of n nodes.
@@ -250,17 +252,17 @@ fn bad_out(n: usize, out: &[i32]) -> bool
 }
 
 // 1, 2, 3, 7 and 12, before any write.
-fn coarse_tested(words: &[u32], rows: &[f32], marks: &[u32], out: &mut [i32]) -> CoarseAnswer
-    ensures { λ r. ⌜ (r ≡ coarseAnswer (now (words .entry)) (now (rows .entry)) (now (marks .entry)) (length (now (out .entry)))) × (now (out .exit) ≡ now (out .entry)) ⌝ }
+fn coarse_tested(words: &[u32], rows: &[f32], marks: &[u32], out: &[i32]) -> CoarseAnswer
+    ensures { λ r. ⌜ r ≡ coarseAnswer (now (words .entry)) (now (rows .entry)) (now (marks .entry)) (length (now (out .entry))) ⌝ }
 {
-    let n = words.len() / 4;
+    let n = words.len() / style::WORDS;
     if bad_out(n, out) {
         return CoarseAnswer::Refused(Answer::Lengths);
     }
     if let Tested::Refuse(a) = rows_tested(words, rows, marks) {
         return CoarseAnswer::Refused(a);
     }
-    if let Found::At(i) = walk(words, rows, marks, n, out, false) {
+    if let Found::At(i) = first_too_far(words, rows, marks, n) {
         return CoarseAnswer::TooFar(i);
     }
     CoarseAnswer::Shown
@@ -273,7 +275,7 @@ pub fn coarse(words: &[u32], rows: &[f32], marks: &[u32], out: &mut [i32]) -> Co
     let a = coarse_tested(words, rows, marks, out);
     match a {
         CoarseAnswer::Shown => {
-            walk(words, rows, marks, words.len() / 4, out, true);
+            put_boxes(words, rows, marks, words.len() / style::WORDS, out);
             CoarseAnswer::Shown
         }
         CoarseAnswer::Refused(no) => CoarseAnswer::Refused(no),

@@ -45,28 +45,36 @@ fn bad_word(w: u32) -> bool
     if 4 < k {
         return true;
     }
-    code(w, 5) != 0
+    code(w, style::ALIGN) != 0
 }
 
 // 3: safe beside neither center nor end.
 fn bad_safety(w: u32) -> bool
     ensures { λ r. ⌜ r ≡ badSafety w ⌝ }
 {
-    if flag(w, 17) { code(w, 5) < 2 } else { false }
+    if flag(w, style::SAFE) {
+        code(w, style::ALIGN) < 2
+    } else {
+        false
+    }
 }
 
 // 3: a baseline on a non-leaf.
 fn bad_baseline(w: u32) -> bool
     ensures { λ r. ⌜ r ≡ badBaseline w ⌝ }
 {
-    if flag(w, 16) { code(w, 0) != 1 } else { false }
+    if flag(w, style::BASELINE) {
+        code(w, style::KIND) != 1
+    } else {
+        false
+    }
 }
 
 // 3: the style word from bit 13 on.
 fn bad_align(w: u32) -> bool
     ensures { λ r. ⌜ r ≡ badAlign w ⌝ }
 {
-    if !clear_from(w, 18) {
+    if !clear_from(w, style::UNUSED) {
         return true;
     }
     if bad_baseline(w) {
@@ -83,29 +91,29 @@ fn bad_codes(words: &[u32], i: usize) -> bool
     requires { ⌜ i < nodesIn (now words) ⌝ }
     ensures { λ r. ⌜ r ≡ badCodes (now (words .entry)) i ⌝ }
 {
-    let style = word_in(words, i, 1);
-    let u = word_in(words, i, 2);
-    let v = word_in(words, i, 3);
-    if code(style, 0) == 3 {
+    let w = word_in(words, i, style::STYLE);
+    let u = word_in(words, i, style::UNITS);
+    let v = word_in(words, i, style::MORE_UNITS);
+    if code(w, style::KIND) == 3 {
         return true;
     }
-    if code(style, 2) == 3 {
+    if code(w, style::POSITION) == 3 {
         return true;
     }
-    if bad_align(style) {
+    if bad_align(w) {
         return true;
     }
-    if !clear_from(u, 28) {
+    if !clear_from(u, style::UNIT_BITS) {
         return true;
     }
-    if !clear_from(v, 16) {
+    if !clear_from(v, style::MORE_UNIT_BITS) {
         return true;
     }
     if some_bad_unit(u, v) {
         return true;
     }
     if i == 0 {
-        return code(style, 0) != 0;
+        return code(w, style::KIND) != 0;
     }
     false
 }
@@ -114,11 +122,11 @@ fn bad_codes(words: &[u32], i: usize) -> bool
 fn ratio_beside_fraction(words: &[u32], numbers: &[f32], i: usize) -> bool
     ensures { λ r. ⌜ r ≡ ratioBesideFraction (now (words .entry)) (now (numbers .entry)) i ⌝ }
 {
-    if number(numbers, i, 22) == 0.0 {
+    if number(numbers, i, style::RATIO) == 0.0 {
         return false;
     }
-    let u = word(words, i, 2);
-    let v = word(words, i, 3);
+    let u = word(words, i, style::UNITS);
+    let v = word(words, i, style::MORE_UNITS);
     if unit(u, v, 1) == 2 {
         return true;
     }
@@ -144,10 +152,26 @@ pub fn first_bad_style(words: &[u32], numbers: &[f32]) -> Found
     requires { ⌜ nodesIn (now words) ≤ 1024 ⌝ }
     ensures { λ r. ⌜ r ≡ lowest (badStyle (now (words .entry)) (now (numbers .entry))) (nodesIn (now (words .entry))) ⌝ }
 {
-    let n = words.len() / 4;
+    let n = words.len() / style::WORDS;
     let mut i = 0;
     while i < n {
         if bad_style(words, numbers, i) {
+            return Found::At(NodeId(i as u32));
+        }
+        i += 1;
+    }
+    Found::Nowhere
+}
+
+// 3 by the words alone: the lowest node at fault.
+pub fn first_bad_codes(words: &[u32]) -> Found
+    requires { ⌜ nodesIn (now words) ≤ 1024 ⌝ }
+    ensures { λ r. ⌜ r ≡ lowest (badCodes (now (words .entry))) (nodesIn (now (words .entry))) ⌝ }
+{
+    let n = words.len() / style::WORDS;
+    let mut i = 0;
+    while i < n {
+        if bad_codes(words, i) {
             return Found::At(NodeId(i as u32));
         }
         i += 1;

@@ -39,7 +39,8 @@ use Rattle.walks.proofs.Parts.{tree-facts}
 use Rattle.walks.proofs.Given.{facts}
 use Rattle.walks.proofs.Edited.{edited-stays}
 use Rattle.rows.specs.Store.{Becomes, Reads}
-use Rattle.compute.specs.Contract.{IsTree, placedIn, placedBy, placedT, AreT, LaidT, AskedT, Hidden, Aside, Settled, Stands, LeafPut}
+use Rattle.compute.proofs.Placed.{placedIn, placedBy, placedT}
+use Rattle.compute.specs.Contract.{IsTree, AreT, LaidT, AskedT, Hidden, Aside, Settled, Stands, LeafPut}
 use Rattle.compute.proofs.Shape.{sizes-mapF, same-countF}
 use Rattle.compute.proofs.OneTree.{flat-leaf, root-style}
 

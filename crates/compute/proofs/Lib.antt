@@ -1,6 +1,9 @@
+pub mod Counting
+pub mod Placed
 pub mod OneChild
 pub mod Shape
 pub mod StackLoop
+pub mod Ending
 pub mod OneTree
 pub mod Asked
 pub mod Twice

@@ -15,7 +15,7 @@ use Rattle.steps.specs.declared.Cursor.{Cursor}
 use Rattle.steps.specs.declared.BlockItem.{BlockItem}
 use Rattle.steps.specs.declared.LayoutOutput.{LayoutOutput}
 use Rattle.steps.proofs.Clauses.{byFlow, styleT, placeIn, layF-at}
-use Rattle.compute.specs.Contract.{Placed, placedIn, placedBy, placedT}
+use Rattle.compute.proofs.Placed.{Placed, placedIn, placedBy, placedT}
 
 -- the rest of the stack, behind one child
 abbrev pub andThen : Placed → (Cursor → Stacked) → Stacked

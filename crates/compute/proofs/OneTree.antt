@@ -4,43 +4,38 @@ use mathlib.Core.Bool.{true, false}
 use mathlib.Core.List.{List, _++_}
 use Prim.Native.Nat.{ℕ, suc, _+_, _*_, _-_}
 use native.Mathlib.Omega.{arith}
-use lib.ListN.{length, take, drop, replicate, length-drop}
+use lib.ListN.{length, take, drop, replicate}
 use lib.Ieee.{Float}
-use borrow.Rule.Slice.PartMut.{putMid}
 use Rattle.geometry.specs.Geometry.{zeroF}
-use Rattle.util.specs.declared.OptionF32.{OptionF32}
-use Rattle.util.specs.declared.OptionF32.the-variants.{None, Some}
 use Rattle.style.specs.Codes.{codeAt, kindOf}
 use Rattle.style.specs.Style.{wordAt, measureAt, styleAt}
 use Rattle.style.specs.declared.Style.{Style}
-use Rattle.tree.specs.Tree.{Tree, Forest, node, none, more, countT, countF, flatT, flatF, mapT, mapF, rootT, onRoot}
+use Rattle.tree.specs.Tree.{Tree, Forest, node, countT, countF, flatT, flatF, mapT, mapF, rootT}
 use Rattle.tree.specs.Table.{from}
-use Rattle.tree.proofs.Laws.{countT-node, flatT-node, flatF-more, mapT-node, onRoot-node}
-use Rattle.tree.proofs.Lists.{tail-part, tail-put}
+use Rattle.tree.proofs.Laws.{countT-node, flatT-node, mapT-node}
+use Rattle.tree.proofs.Lists.{tail-part}
 use Rattle.style.specs.Flow.{isLeaf}
 use Rattle.steps.specs.Edges.{frameOf}
 use Rattle.steps.specs.Stack.{startOf}
 use Rattle.steps.specs.Through.{finished, leafOutput}
-use Rattle.steps.specs.Row.{Row, rowNumbers, rowWords, laidRow, probeOf, lowered}
+use Rattle.steps.specs.Row.{Row, rowNumbers, rowWords, laidRow, probeOf}
 use Rattle.steps.specs.Page.{Cell, Node, staying}
 use Rattle.steps.specs.Kept.{zerosF}
-use Rattle.steps.specs.Layout.{Stacked, leafLaid, blockLaid, alignF, lowerF, layT, layF}
+use Rattle.steps.specs.Layout.{Stacked, leafLaid, blockLaid, alignF, layT, layF}
 use Rattle.steps.specs.declared.LayoutInput.{LayoutInput}
 use Rattle.steps.specs.declared.LayoutOutput.{LayoutOutput}
 use Rattle.steps.specs.declared.Frame.{Frame}
 use Rattle.steps.specs.declared.Cursor.{Cursor}
 use Rattle.steps.specs.declared.Finished.{Finished}
 use Rattle.steps.proofs.Clauses.{layT-leaf, layT-block}
-use Rattle.walks.specs.Tables.{oldNumbers, oldWords, newNumbers, newWords, TabledT, RowsOf, IsRows}
+use Rattle.walks.specs.Tables.{oldNumbers, oldWords, newNumbers, newWords, TabledT}
 use Rattle.walks.proofs.Parts.{tree-facts}
 use Rattle.walks.proofs.Given.{Facts, facts}
 use Rattle.walks.proofs.Sizes.{sizes-ofF}
 use Rattle.walks.proofs.Zeros.{zero-rows, zero-marks}
-use Rattle.walks.proofs.LowerLoop.{lowerF-none, lowerF-more}
-use Rattle.rows.specs.Store.{Becomes}
-use Rattle.compute.specs.Contract.{IsTree, AreT, LaidT, Aligned, LeafPut}
+use Rattle.heights.specs.declared.StackOutput.{StackOutput}
+use Rattle.compute.specs.Contract.{IsTree, IsBlock, ShapedAs, AreT, LaidT, LaidF, EndsIn, Ended, LeafPut}
 use Rattle.compute.proofs.Shape.{sizes-layF, sizes-mapF, same-countF}
-use Rattle.compute.proofs.StackLoop.{StackT}
 
 -- the label of a tree that stays
 stay-node : (l : Cell) (ks : Forest Cell) → mapT staying (node l ks) ≡ node (staying l) (mapF staying ks)
@@ -91,24 +86,7 @@ leaf-laid ws xs rs ms es b q found s o rs′ ms′ hs hl ho hp (node l ks) h =
     let rw1 : layT (mapT staying (node l ks)) q found .rows ≡ node (laidRow q o (probeOf (l .old))) (zerosF (mapF staying ks)) = ap (λ z. z .rows) lay ∙ leaf-rows (staying l) q (mapF staying ks) ∙ rw (← oo, stay-probe l) refl in
     (oo ∙ sym (ap (λ z. z .out) lay ∙ leaf-out (staying l) q (mapF staying ks)), (p .0 ∙ fl .0 ∙ sym (ap (flatT newNumbers) rw1), p .1 ∙ fl .1 ∙ sym (ap (flatT newWords) rw1)))
 
--- step M leaves the words
-lower-words : (d : Float) (r : Row) → rowWords (lowered d r) ≡ rowWords r
-unfolding lowered
-lower-words d r = refl
-
-lower-root : (d : Float) (t : Tree Row) → flatT newWords (onRoot (lowered d) t) ≡ flatT newWords t
-lower-root d (node r ks) = rw (onRoot-node, flatT-node, flatT-node) (ap (λ (z : List ℕ). z ++ flatF newWords ks) (lower-words d r))
-
-marks-lower : (d : Float) (ts : Forest Row) → flatF newWords (lowerF d ts) ≡ flatF newWords ts
-marks-lower d none = rw (lowerF-none d)
-marks-lower d (more t ts) = rw (lowerF-more, flatF-more, flatF-more, lower-root d t, marks-lower d ts)
-
-marks-align : (s : OptionF32) (ts : Forest Row) → flatF newWords (alignF s ts) ≡ flatF newWords ts
-unfolding alignF
-marks-align None ts = refl
-marks-align (Some d) ts = marks-lower d ts
-
--- a block: what the stack left, the node's own row, and what step M made of the rest
+-- a block: what the stack left, then L to N
 block-out : (l : Node) (q : LayoutInput) (f : Frame) (s : Stacked) → blockLaid l q f s .out ≡ finished (l .site .style) q f (s .last) .output
 unfolding blockLaid
 block-out l q f s = refl
@@ -118,65 +96,46 @@ block-rows : (l : Node) (q : LayoutInput) (f : Frame) (s : Stacked)
 unfolding blockLaid
 block-rows l q f s = refl
 
-module _ (ws : List ℕ) (xs rs : List Float) (ms es : List ℕ) (b : ℕ) (q : LayoutInput) (found : Float) (s : Style) (f : Frame) (end : Cursor) (d : Finished) (rs1 rs2 : List Float) (ms1 ms2 : List ℕ)
-    (hs : s ≡ styleAt ws 0 xs b) (hl : isLeaf (s .kind) ≡ false) (hf : f ≡ frameOf s q found)
-    (stacked : (t : Tree Cell) → TabledT ws xs rs ms es b t → StackT rs1 ms1 f t end)
-    (hd : d ≡ finished s q f end)
-    (headed : Becomes rs1 ms1 rs2 ms2 (λ r. laidRow q (d .output) (probeOf r)))
+module _ (ws : List ℕ) (xs rs : List Float) (ms es : List ℕ) (b : ℕ) (q : LayoutInput) (found : Float) (s : Style) (f : Frame) (stack : StackOutput) (rs1 : List Float) (ms1 : List ℕ)
+    (hs : s ≡ styleAt ws 0 xs b) (hl : isLeaf (s .kind) ≡ false) (hf : f ≡ frameOf s q found) (laid : LaidF ws xs rs ms es b f stack rs1 ms1)
   where
-    record Inside (l : Cell) (ks : Forest Cell) : Type 0 where
-      style-is : s ≡ staying l .site .style
-      end-is : end ≡ layF (mapF staying ks) f (startOf f) .last
-      rows2-is : rs2 ≡ rowNumbers (laidRow q (d .output) (probeOf (l .old))) ++ flatF newNumbers (layF (mapF staying ks) f (startOf f) .rows)
-      marks2-is : ms2 ≡ rowWords (laidRow q (d .output) (probeOf (l .old))) ++ flatF newWords (layF (mapF staying ks) f (startOf f) .rows)
+    abbrev stacked : Forest Cell → Stacked
+    stacked ks = layF (mapF staying ks) f (startOf f)
 
-    inside : (l : Cell) (ks : Forest Cell) → TabledT ws xs rs ms es b (node l ks) → Inside l ks
-    inside l ks h =
-        let k = tree-facts ws xs rs ms es b l ks h in
-        let g = stacked (node l ks) h in
-        let p = headed (l .old) _ _ (g .rows-are) (g .marks-are) in
-        record { style-is = hs ∙ k .style-is ∙ sym (stay-style l); end-is = g .end-is; rows2-is = p .0; marks2-is = p .1 }
-
-    -- what step M is given
-    rows-given : (l : Cell) (ks : Forest Cell) → TabledT ws xs rs ms es b (node l ks)
-        → RowsOf (take (length ws - 4) (drop 4 ws)) (take (length rs2 - 16) (drop 16 rs2)) (take (length ms2 - 2) (drop 2 ms2)) (layF (mapF staying ks) f (startOf f) .rows)
-    rows-given l ks h =
-        let i = inside l ks h in
+    -- the stack leaves the shape
+    shaped : (l : Cell) (ks : Forest Cell) → TabledT ws xs rs ms es b (node l ks) → ShapedAs ws (stacked ks .rows)
+    shaped l ks h =
         let k = tree-facts ws xs rs ms es b l ks h .kids in
         let ss = sizes-layF (mapF staying ks) f (startOf f) ∙ sizes-mapF staying ks in
-        let cc1 : countF (layF (mapF staying ks) f (startOf f) .rows) ≡ countF ks = same-countF _ ks ss in
+        let cc : countF (stacked ks .rows) ≡ countF ks = same-countF _ ks ss in
+        let one : countT (node l ks) ≡ suc (countF ks) = countT-node l ks in
         record {
-          words-long = k .words-long ∙ ap (λ (n : ℕ). 4 * n) (sym cc1);
-          sizes-are = ap (from (λ n. wordAt (take (length ws - 4) (drop 4 ws)) n 0) 0) cc1 ∙ sizes-ofF (take (length ws - 4) (drop 4 ws)) xs es (b + 1) ks (k .sites-are) ∙ sym ss;
-          rows-are = tail-part 16 rs2 ∙ ap (drop 16) (i .rows2-is);
-          marks-are = tail-part 2 ms2 ∙ ap (drop 2) (i .marks2-is);
+          words-long = omega (arith, h .words-long);
+          sizes-are = ap (λ (z : List ℕ). from (λ n. wordAt z n 0) 0 (countF (stacked ks .rows))) (sym (tail-part 4 ws)) ∙ ap (from (λ n. wordAt (take (length ws - 4) (drop 4 ws)) n 0) 0) cc
+              ∙ sizes-ofF (take (length ws - 4) (drop 4 ws)) xs es (b + 1) ks (k .sites-are)
+              ∙ sym ss;
         }
 
-    pub align-given : (depth : ℕ) → IsTree ws xs rs ms es b depth → IsRows (take (length ws - 4) (drop 4 ws)) (take (length rs2 - 16) (drop 16 rs2)) (take (length ms2 - 2) (drop 2 ms2))
-    align-given depth h = go (h .tree) (h .tabled) (facts ws xs rs ms es b depth h)
+    pub is-block : (depth : ℕ) → IsTree ws xs rs ms es b depth → IsBlock ws xs rs1 ms1 b
+    is-block depth h = go (h .tree) (h .tabled) (facts ws xs rs ms es b depth h)
       where
-        go : (t : Tree Cell) → TabledT ws xs rs ms es b t → Facts ws xs rs ms es b depth → IsRows (take (length ws - 4) (drop 4 ws)) (take (length rs2 - 16) (drop 16 rs2)) (take (length ms2 - 2) (drop 2 ms2))
-        go (node l ks) k fa =
-            let r = rows-given l ks k in
-            record { forest = layF (mapF staying ks) f (startOf f) .rows; rows-of = r; fit = rw (tail-part 4 ws) (simp length-drop (omega (arith, fa .fit))) }
+        go : (t : Tree Cell) → TabledT ws xs rs ms es b t → Facts ws xs rs ms es b depth → IsBlock ws xs rs1 ms1 b
+        go (node l ks) k fa = record { own = l .old; children = stacked ks .rows; headed = laid l ks k .1; shaped = shaped l ks k; fit = omega (arith, fa .fit); reach = fa .reach }
 
-    pub block-laid : (nr3 : List Float) → Aligned (take (length ws - 4) (drop 4 ws)) (take (length rs2 - 16) (drop 16 rs2)) (take (length ms2 - 2) (drop 2 ms2)) (d .shift) nr3
-        → LaidT ws xs rs ms es b q found (d .output) (putMid 16 (length rs2 - 16) rs2 nr3) ms2
-    block-laid nr3 ha (node l ks) h =
-        let i = inside l ks h in
-        let a = ha (layF (mapF staying ks) f (startOf f) .rows) (rows-given l ks h) in
-        let lf : isLeaf (staying l .site .style .kind) ≡ false = ap (λ (z : Style). isLeaf (z .kind)) (sym (i .style-is)) ∙ hl in
-        let ff : f ≡ frameOf (staying l .site .style) q found = hf ∙ ap (λ (z : Style). frameOf z q found) (i .style-is) in
-        let lay : layT (mapT staying (node l ks)) q found ≡ blockLaid (staying l) q f (layF (mapF staying ks) f (startOf f)) =
+    pub block-laid : (out : LayoutOutput) (rs2 : List Float) (ms2 : List ℕ) → Ended ws xs rs1 ms1 b q stack out rs2 ms2 → LaidT ws xs rs ms es b q found out rs2 ms2
+    block-laid out rs2 ms2 ended (node l ks) h =
+        let k = tree-facts ws xs rs ms es b l ks h in
+        let g = laid l ks h in
+        let d = finished s q f (stacked ks .last) in
+        let r : EndsIn q d (l .old) (stacked ks .rows) out rs2 ms2 = rw hs (ended f (stacked ks .last) (l .old) (stacked ks .rows) (g .0) (g .1) (shaped l ks h)) in
+        let st : s ≡ staying l .site .style = hs ∙ k .style-is ∙ sym (stay-style l) in
+        let lf : isLeaf (staying l .site .style .kind) ≡ false = ap (λ (z : Style). isLeaf (z .kind)) (sym st) ∙ hl in
+        let ff : f ≡ frameOf (staying l .site .style) q found = hf ∙ ap (λ (z : Style). frameOf z q found) st in
+        let lay : layT (mapT staying (node l ks)) q found ≡ blockLaid (staying l) q f (stacked ks) =
         ap (λ t. layT t q found) (stay-node l ks) ∙ layT-block (staying l) (mapF staying ks) q found lf ∙ ap (λ (z : Frame). blockLaid (staying l) q z (layF (mapF staying ks) z (startOf z))) (sym ff) in
-        let dd : d ≡ finished (staying l .site .style) q f (layF (mapF staying ks) f (startOf f) .last) = hd ∙ rw (i .style-is, i .end-is) refl in
-        let rr : layT (mapT staying (node l ks)) q found .rows ≡ node (laidRow q (d .output) (probeOf (l .old))) (alignF (d .shift) (layF (mapF staying ks) f (startOf f) .rows)) =
-        ap (λ z. z .rows) lay ∙ block-rows (staying l) q f (layF (mapF staying ks) f (startOf f)) ∙ rw (← dd, stay-probe l) refl in
-        let h16 : take 16 rs2 ≡ rowNumbers (laidRow q (d .output) (probeOf (l .old))) = ap (take 16) (i .rows2-is) in (
-          ap (λ (z : Finished). z .output) dd ∙ sym (ap (λ z. z .out) lay ∙ block-out (staying l) q f (layF (mapF staying ks) f (startOf f))),
-          (
-            tail-put 16 rs2 nr3 ∙ ap (λ (z : List Float). z ++ nr3) h16 ∙ ap (λ (z : List Float). rowNumbers (laidRow q (d .output) (probeOf (l .old))) ++ z) a
-                ∙ sym (ap (flatT newNumbers) rr ∙ flatT-node newNumbers _ _),
-            i .marks2-is ∙ ap (λ (z : List ℕ). rowWords (laidRow q (d .output) (probeOf (l .old))) ++ z) (sym (marks-align (d .shift) (layF (mapF staying ks) f (startOf f) .rows))) ∙ sym (ap (flatT newWords) rr ∙ flatT-node newWords _ _),
-          ),
+        let dd : d ≡ finished (staying l .site .style) q f (stacked ks .last) = ap (λ (z : Style). finished z q f (stacked ks .last)) st in
+        let rr : layT (mapT staying (node l ks)) q found .rows ≡ node (laidRow q (d .output) (probeOf (l .old))) (alignF (d .shift) (stacked ks .rows)) =
+        ap (λ z. z .rows) lay ∙ block-rows (staying l) q f (stacked ks) ∙ rw (← dd, stay-probe l) refl in (
+          r .0 ∙ ap (λ (z : Finished). z .output) dd ∙ sym (ap (λ z. z .out) lay ∙ block-out (staying l) q f (stacked ks)),
+          (r .1 .0 ∙ sym (ap (flatT newNumbers) rr ∙ flatT-node newNumbers _ _), r .1 .1 ∙ sym (ap (flatT newWords) rr ∙ flatT-node newWords _ _)),
         )

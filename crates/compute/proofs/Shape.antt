@@ -19,7 +19,7 @@ use Rattle.steps.specs.declared.Frame.{Frame}
 use Rattle.steps.specs.declared.Cursor.{Cursor}
 use Rattle.steps.proofs.Shape.{mute, shape-on, shape-zeros-T, shape-T, shape-F, shape-ask}
 use Rattle.walks.specs.Tables.{sizeOnly}
-use Rattle.compute.specs.Contract.{placedIn, placedBy, placedT}
+use Rattle.compute.proofs.Placed.{placedIn, placedBy, placedT}
 
 abbrev pub sizesT : {A : Type 0} → Tree A → List ℕ
 sizesT t = flatT sizeOnly t

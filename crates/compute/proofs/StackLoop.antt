@@ -18,7 +18,10 @@ use Rattle.steps.specs.declared.Cursor.{Cursor}
 use Rattle.steps.proofs.Clauses.{layF-none}
 use Rattle.walks.specs.Tables.{oldNumbers, oldWords, newNumbers, newWords, TabledT}
 use Rattle.walks.proofs.Parts.{Left, child-of, kids-sites, left-none, left-some, tree-facts}
-use Rattle.compute.specs.Contract.{placedT, AreT}
+use Rattle.heights.specs.Leaves.{stackLeaves}
+use Rattle.heights.specs.declared.StackOutput.{StackOutput}
+use Rattle.compute.specs.Contract.{AreT, StackIs}
+use Rattle.compute.proofs.Placed.{placedT}
 use Rattle.compute.proofs.OneChild.{layF-more, andThen, counts-more}
 use Rattle.compute.proofs.Shape.{sizes-placed, sizes-map, same-countT}
 
@@ -112,31 +115,25 @@ module _ (ws : List ℕ) (xs rs : List Float) (ms es : List ℕ) (b : ℕ) (f : 
 pub turn : (ws : List ℕ) (xs rs : List Float) (ms es : List ℕ) (b : ℕ) (f : Frame) (t : Tree Cell) (c : Cursor) (a e : ℕ) → e ≡ a + wordAt ws a 0 → RestT ws xs rs ms es b f t c a → 4 * a < length ws → Turn ws xs rs ms es b f t c a e
 turn ws xs rs ms es b f (node l ks) c a e ed s = turn-of ws xs rs ms es b f l ks c a e ed (s .left) (s .q) (s .p) (s .here) (s .shallow) (s .end-same) (s .rows-done) (s .marks-done)
 
--- all children are done: where the stack ended, and the rows below the node's own
-pub record Stack (rs : List Float) (ms : List ℕ) (f : Frame) (l : Cell) (ks : Forest Cell) (c : Cursor) : Type 0 where
-  pub end-is : c ≡ layF (mapF staying ks) f (startOf f) .last
-  pub rows-are : rs ≡ rowNumbers (l .old) ++ flatF newNumbers (layF (mapF staying ks) f (startOf f) .rows)
-  pub marks-are : ms ≡ rowWords (l .old) ++ flatF newWords (layF (mapF staying ks) f (startOf f) .rows)
+-- all children are done: what the stack leaves, and the rows below the node's own
+module _ (ws : List ℕ) (xs rs : List Float) (ms es : List ℕ) (b : ℕ) (f : Frame) (l : Cell) (ts : Forest Cell) (c : Cursor) (a : ℕ) (out : StackOutput) (le : length ws ≤ 4 * a) (ho : out ≡ stackLeaves f c) where
+  end-of : (left : Forest Cell) (q : List Float) (p : List ℕ) → Left ws xs rs ms es b a left q p
+      → layF (mapF staying ts) f (startOf f) .last ≡ layF (mapF staying left) f c .last
+      → rowNumbers (l .old) ++ flatF newNumbers (layF (mapF staying ts) f (startOf f) .rows) ≡ q ++ flatF newNumbers (layF (mapF staying left) f c .rows)
+      → rowWords (l .old) ++ flatF newWords (layF (mapF staying ts) f (startOf f) .rows) ≡ p ++ flatF newWords (layF (mapF staying left) f c .rows)
+      → StackIs f (l .old) (layF (mapF staying ts) f (startOf f)) out rs ms
+  end-of none q p h se dr dm =
+      let lay : layF (mapF staying none) f c ≡ record { last = c; rows = none } = ap (λ z. layF z f c) (mapF-none staying) ∙ layF-none f c in (
+        ho ∙ ap (stackLeaves f) (sym (se ∙ ap (λ s. s .last) lay)),
+        (
+          h .rows-split ∙ ap (λ (z : List Float). q ++ z) (flatF-none oldNumbers ∙ sym (ap (λ s. flatF newNumbers (s .rows)) lay ∙ flatF-none newNumbers)) ∙ sym dr,
+          h .marks-split ∙ ap (λ (z : List ℕ). p ++ z) (flatF-none oldWords ∙ sym (ap (λ s. flatF newWords (s .rows)) lay ∙ flatF-none newWords)) ∙ sym dm,
+        ),
+      )
+  end-of (more t us) q p h se dr dm = absurd (left-none ws xs rs ms es b a t us q p h le)
 
-abbrev pub StackT : List Float → List ℕ → Frame → Tree Cell → Cursor → Type 0
-StackT rs ms f (node l ks) c = Stack rs ms f l ks c
-
-end-of : (ws : List ℕ) (xs rs : List Float) (ms es : List ℕ) (b : ℕ) (f : Frame) (l : Cell) (ts : Forest Cell) (c : Cursor) (a : ℕ) (left : Forest Cell) (q : List Float) (p : List ℕ) → Left ws xs rs ms es b a left q p
-    → layF (mapF staying ts) f (startOf f) .last ≡ layF (mapF staying left) f c .last
-    → rowNumbers (l .old) ++ flatF newNumbers (layF (mapF staying ts) f (startOf f) .rows) ≡ q ++ flatF newNumbers (layF (mapF staying left) f c .rows)
-    → rowWords (l .old) ++ flatF newWords (layF (mapF staying ts) f (startOf f) .rows) ≡ p ++ flatF newWords (layF (mapF staying left) f c .rows) → length ws ≤ 4 * a
-    → Stack rs ms f l ts c
-end-of ws xs rs ms es b f l ts c a none q p h se dr dm le =
-    let lay : layF (mapF staying none) f c ≡ record { last = c; rows = none } = ap (λ z. layF z f c) (mapF-none staying) ∙ layF-none f c in
-    record {
-      end-is = sym (se ∙ ap (λ s. s .last) lay);
-      rows-are = h .rows-split ∙ ap (λ (z : List Float). q ++ z) (flatF-none oldNumbers ∙ sym (ap (λ s. flatF newNumbers (s .rows)) lay ∙ flatF-none newNumbers)) ∙ sym dr;
-      marks-are = h .marks-split ∙ ap (λ (z : List ℕ). p ++ z) (flatF-none oldWords ∙ sym (ap (λ s. flatF newWords (s .rows)) lay ∙ flatF-none newWords)) ∙ sym dm;
-    }
-end-of ws xs rs ms es b f l ts c a (more t us) q p h se dr dm le = absurd (left-none ws xs rs ms es b a t us q p h le)
-
-pub end : (ws : List ℕ) (xs rs : List Float) (ms es : List ℕ) (b : ℕ) (f : Frame) (t : Tree Cell) (c : Cursor) (a : ℕ) → RestT ws xs rs ms es b f t c a → length ws ≤ 4 * a → StackT rs ms f t c
-end ws xs rs ms es b f (node l ks) c a s = end-of ws xs rs ms es b f l ks c a (s .left) (s .q) (s .p) (s .here) (s .end-same) (s .rows-done) (s .marks-done)
+  pub end : RestT ws xs rs ms es b f (node l ts) c a → StackIs f (l .old) (layF (mapF staying ts) f (startOf f)) out rs ms
+  end s = end-of (s .left) (s .q) (s .p) (s .here) (s .end-same) (s .rows-done) (s .marks-done)
 
 -- at the start nothing is counted
 pub start-counts : (f : Frame) (c : Cursor) → c ≡ startOf f → (c .count ≤ 0) × (c .shown .0 ≤ 0)

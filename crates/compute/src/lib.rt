@@ -3,13 +3,15 @@ ghost use mathlib.Core.Path.{_≡_};
 ghost use Rattle.rows.specs.Store.{OneRow};
 ghost use Rattle.steps.specs.Stack.{Counts};
 ghost use Rattle.walks.specs.Tables.{IsRows};
-ghost use Rattle.compute.specs.Contract.{IsTree, LaidT, AskedT, Aligned, LeafPut, Hidden, Aside, Settled, Stands};
+ghost use Rattle.compute.specs.Contract.{IsTree, IsBlock, LaidT, LaidF, AskedT, Aligned, LeafPut, Hidden, Aside, Settled, Ended, Stands};
+use heights::StackOutput;
 use stacking::Footing;
 use steps::Cursor;
 use steps::Frame;
 use steps::LayoutInput;
 use steps::LayoutOutput;
 use style::Flow;
+use tree::Order;
 use util::OptionF32;
 
 // Step M, where there is a shift.
@@ -24,70 +26,102 @@ fn align(words: &[u32], rows: &mut [f32], marks: &[u32], shift: OptionF32)
 }
 
 // A leaf's own row; what stands below is zero.
-fn put_leaf(rows: &mut [f32], marks: &mut [u32], q: LayoutInput, o: LayoutOutput)
+fn put_leaf(rows: &mut [f32], marks: &mut [u32], input: LayoutInput, output: LayoutOutput)
     requires { ⌜ OneRow (now rows) (now marks) ⌝ }
-    ensures { λ _. ⌜ LeafPut (now (rows .entry)) (now (marks .entry)) q o (now (rows .exit)) (now (marks .exit)) ⌝ }
+    ensures { λ _. ⌜ LeafPut (now (rows .entry)) (now (marks .entry)) input output (now (rows .exit)) (now (marks .exit)) ⌝ }
 {
-    rows::put_head(rows, marks, q, o);
-    rows::clear(&mut rows[16..]);
-    rows::clear_marks(&mut marks[2..]);
+    rows::put_head(rows, marks, input, output);
+    rows::clear(&mut rows[style::ROW..]);
+    rows::clear_marks(&mut marks[style::MARKS..]);
 }
 
 // May the answer in the first row be kept?
-fn stands(rows: &[f32], marks: &[u32], edits: &[u32], base: usize, n: usize, q: LayoutInput) -> bool
+fn stands(
+    rows: &[f32],
+    marks: &[u32],
+    edits: &[u32],
+    base: usize,
+    n: usize,
+    input: LayoutInput,
+) -> bool
     requires { ⌜ OneRow (now rows) (now marks) ⌝ }
-    ensures { λ v. ⌜ Stands (now (rows .entry)) (now (marks .entry)) (now (edits .entry)) base n q v ⌝ }
+    ensures { λ v. ⌜ Stands (now (rows .entry)) (now (marks .entry)) (now (edits .entry)) base n input v ⌝ }
 {
     if rows::any_edit(edits, base, n) {
         return false;
     }
-    rows::final_stands(rows, marks, q)
+    rows::final_stands(rows, marks, input)
 }
 
 // A hidden child: its order; the cursor counts it.
-fn pass_hidden(rows: &mut [f32], marks: &mut [u32], c: Cursor) -> Cursor
+fn pass_hidden(rows: &mut [f32], marks: &mut [u32], cursor: Cursor) -> Cursor
     requires room { ⌜ OneRow (now rows) (now marks) ⌝ }
-    requires counts { ⌜ Counts c ⌝ }
-    ensures { λ r. ⌜ Hidden (now (rows .entry)) (now (marks .entry)) c r (now (rows .exit)) (now (marks .exit)) ⌝ }
+    requires counts { ⌜ Counts cursor ⌝ }
+    ensures { λ r. ⌜ Hidden (now (rows .entry)) (now (marks .entry)) cursor r (now (rows .exit)) (now (marks .exit)) ⌝ }
 {
-    rows::put_hidden(rows, marks, c.count);
-    stacking::past_hidden(c)
+    rows::put_hidden(rows, marks, Order(cursor.count));
+    stacking::past_hidden(cursor)
 }
 
 // A child out of the flow: its edges and line.
-fn pass_aside(rows: &mut [f32], marks: &mut [u32], f: Frame, c: Cursor) -> Cursor
+fn pass_aside(rows: &mut [f32], marks: &mut [u32], frame: Frame, cursor: Cursor) -> Cursor
     requires room { ⌜ OneRow (now rows) (now marks) ⌝ }
-    requires counts { ⌜ Counts c ⌝ }
-    ensures { λ r. ⌜ Aside (now (rows .entry)) (now (marks .entry)) f c r (now (rows .exit)) (now (marks .exit)) ⌝ }
+    requires counts { ⌜ Counts cursor ⌝ }
+    ensures { λ r. ⌜ Aside (now (rows .entry)) (now (marks .entry)) frame cursor r (now (rows .exit)) (now (marks .exit)) ⌝ }
 {
-    let shown = c.shown;
-    let edges = stacking::edges_of(f);
-    let line = stacking::line_of(f, c);
+    let shown = cursor.shown;
+    let edges = stacking::edges_of(frame);
+    let line = stacking::line_of(frame, cursor);
     rows::put_aside(rows, marks, edges, line, shown);
-    stacking::past_aside(c)
+    stacking::past_aside(cursor)
 }
 
 // A child that has answered: its place.
 fn settle(
     rows: &mut [f32],
     marks: &mut [u32],
-    f: Frame,
-    c: Cursor,
-    i: Footing,
-    o: LayoutOutput,
+    frame: Frame,
+    cursor: Cursor,
+    footing: Footing,
+    answer: LayoutOutput,
 ) -> Cursor
     requires room { ⌜ OneRow (now rows) (now marks) ⌝ }
-    requires counts { ⌜ Counts c ⌝ }
-    ensures { λ r. ⌜ Settled (now (rows .entry)) (now (marks .entry)) f c i o r (now (rows .exit)) (now (marks .exit)) ⌝ }
+    requires counts { ⌜ Counts cursor ⌝ }
+    ensures { λ r. ⌜ Settled (now (rows .entry)) (now (marks .entry)) frame cursor footing answer r (now (rows .exit)) (now (marks .exit)) ⌝ }
 {
-    let p = stacking::place_of(f, c, i, o);
-    let shown = c.shown;
-    rows::put_place(rows, marks, p, shown);
-    stacking::stepped_past(f, c, i, o)
+    let place = stacking::place_of(frame, cursor, footing, answer);
+    let shown = cursor.shown;
+    rows::put_place(rows, marks, place, shown);
+    stacking::stepped_past(frame, cursor, footing, answer)
 }
 
-// One container: steps A to N. Frame and cursor stand here alone while the children are laid out: one function, so that a
-// level takes little stack.
+// Steps L to N: the container's own row, and the shift of its children.
+fn finish(
+    words: &[u32],
+    numbers: &[f32],
+    rows: &mut [f32],
+    marks: &mut [u32],
+    base: usize,
+    input: LayoutInput,
+    stack: StackOutput,
+) -> LayoutOutput
+    requires { ⌜ IsBlock (now words) (now numbers) (now rows) (now marks) base ⌝ }
+    ensures { λ r. ⌜ Ended (now (words .entry)) (now (numbers .entry)) (now (rows .entry)) (now (marks .entry)) base input stack r (now (rows .exit)) (now (marks .exit)) ⌝ }
+{
+    let finished = heights::finish_at(words, numbers, base, input, stack);
+    let output = finished.output;
+    let shift = finished.shift;
+    rows::put_head(rows, marks, input, output);
+    align(
+        &words[style::WORDS..],
+        &mut rows[style::ROW..],
+        &marks[style::MARKS..],
+        shift,
+    );
+    output
+}
+
+// One container: its frame (steps A to I), its stack, steps L to N.
 pub fn compute_block_layout(
     words: &[u32],
     numbers: &[f32],
@@ -96,61 +130,90 @@ pub fn compute_block_layout(
     edits: &[u32],
     base: usize,
     depth: usize,
-    q: LayoutInput,
+    input: LayoutInput,
     found: f32,
 ) -> LayoutOutput
     requires { ⌜ IsTree (now words) (now numbers) (now rows) (now marks) (now edits) base depth ⌝ }
-    ensures { λ r. ⌜ LaidT (now (words .entry)) (now (numbers .entry)) (now (rows .entry)) (now (marks .entry)) (now (edits .entry)) base q found r (now (rows .exit)) (now (marks .exit)) ⌝ }
+    ensures { λ r. ⌜ LaidT (now (words .entry)) (now (numbers .entry)) (now (rows .entry)) (now (marks .entry)) (now (edits .entry)) base input found r (now (rows .exit)) (now (marks .exit)) ⌝ }
 {
     if reader::is_leaf(words) {
-        let o = heights::leaf_at(words, numbers, base, q);
-        put_leaf(rows, marks, q, o);
-        return o;
+        let output = heights::leaf_at(words, numbers, base, input);
+        put_leaf(rows, marks, input, output);
+        return output;
     }
-    let f = frames::frame_at(words, numbers, base, q, found);
-    let mut c = stacking::start_of(f);
-    let mut a = 1usize;
-    while 4 * a < words.len() {
-        let e = a + style::word_in(words, a, 0) as usize;
-        let a4 = 4 * a;
-        let e4 = 4 * e;
-        let a16 = 16 * a;
-        let e16 = 16 * e;
-        let a2 = 2 * a;
-        let e2 = 2 * e;
-        let flow = reader::flow(&words[a4..e4]);
+    let frame = frames::frame_at(words, numbers, base, input, found);
+    let stack = perform_final_layout_on_in_flow_children(
+        words,
+        numbers,
+        rows,
+        marks,
+        edits,
+        base,
+        depth,
+        frame,
+    );
+    finish(words, numbers, rows, marks, base, input, stack)
+}
+
+// The stack: steps J and K. It is lent its container's own slices and begins behind the container's row.
+fn perform_final_layout_on_in_flow_children(
+    words: &[u32],
+    numbers: &[f32],
+    rows: &mut [f32],
+    marks: &mut [u32],
+    edits: &[u32],
+    base: usize,
+    depth: usize,
+    frame: Frame,
+) -> StackOutput
+    requires { ⌜ IsTree (now words) (now numbers) (now rows) (now marks) (now edits) base depth ⌝ }
+    ensures { λ r. ⌜ LaidF (now (words .entry)) (now (numbers .entry)) (now (rows .entry)) (now (marks .entry)) (now (edits .entry)) base frame r (now (rows .exit)) (now (marks .exit)) ⌝ }
+{
+    let mut cursor = stacking::start_of(frame);
+    let mut child = 1usize;
+    while style::WORDS * child < words.len() {
+        let end = child + style::word_in(words, child, style::SIZE) as usize;
+        let w0 = style::WORDS * child;
+        let w1 = style::WORDS * end;
+        let r0 = style::ROW * child;
+        let r1 = style::ROW * end;
+        let m0 = style::MARKS * child;
+        let m1 = style::MARKS * end;
+        let flow = reader::flow(&words[w0..w1]);
         match flow {
             Flow::Gone => {
-                c = pass_hidden(&mut rows[a16..e16], &mut marks[a2..e2], c);
+                cursor = pass_hidden(&mut rows[r0..r1], &mut marks[m0..m1], cursor);
             }
             Flow::Out => {
-                c = pass_aside(&mut rows[a16..e16], &mut marks[a2..e2], f, c);
+                cursor = pass_aside(&mut rows[r0..r1], &mut marks[m0..m1], frame, cursor);
             }
             Flow::In => {
-                let plan = stacking::item::plan_at(&words[a4..e4], numbers, base + a, f);
+                let plan = stacking::item::plan_at(&words[w0..w1], numbers, base + child, frame);
                 let ask = plan.input;
-                let i = plan.footing;
-                let o = compute_child_layout(
-                    &words[a4..e4],
+                let footing = plan.footing;
+                let answer = compute_child_layout(
+                    &words[w0..w1],
                     numbers,
-                    &mut rows[a16..e16],
-                    &mut marks[a2..e2],
+                    &mut rows[r0..r1],
+                    &mut marks[m0..m1],
                     edits,
-                    base + a,
+                    base + child,
                     depth - 1,
                     ask,
                 );
-                c = settle(&mut rows[a16..e16], &mut marks[a2..e2], f, c, i, o);
+                cursor = settle(
+                    &mut rows[r0..r1],
+                    &mut marks[m0..m1],
+                    frame,
+                    cursor,
+                    footing,
+                    answer,
+                );
             }
         }
-        a = e;
+        child = end;
     }
-    let d = heights::finish_at(words, numbers, base, q, f, c);
-    let o = d.output;
-    let shift = d.shift;
-    rows::put_head(rows, marks, q, o);
-    align(&words[4..], &mut rows[16..], &marks[2..], shift);
-    o
+    heights::stack_output(frame, cursor)
 }
 
 // What a child is answered: its old answer where that stands, else a new one.
@@ -162,16 +225,20 @@ fn compute_child_layout(
     edits: &[u32],
     base: usize,
     depth: usize,
-    q: LayoutInput,
+    input: LayoutInput,
 ) -> LayoutOutput
     requires { ⌜ IsTree (now words) (now numbers) (now rows) (now marks) (now edits) base depth ⌝ }
-    ensures { λ r. ⌜ AskedT (now (words .entry)) (now (numbers .entry)) (now (rows .entry)) (now (marks .entry)) (now (edits .entry)) base q r (now (rows .exit)) (now (marks .exit)) ⌝ }
+    ensures { λ r. ⌜ AskedT (now (words .entry)) (now (numbers .entry)) (now (rows .entry)) (now (marks .entry)) (now (edits .entry)) base input r (now (rows .exit)) (now (marks .exit)) ⌝ }
 {
-    let n = words.len() / 4;
-    if stands(rows, marks, edits, base, n, q) {
-        let o = rows::output_in(rows, marks);
-        walks::keep_below(&words[4..], &mut rows[16..], &mut marks[2..]);
-        return o;
+    let n = words.len() / style::WORDS;
+    if stands(rows, marks, edits, base, n, input) {
+        let output = rows::output_in(rows, marks);
+        walks::keep_below(
+            &words[style::WORDS..],
+            &mut rows[style::ROW..],
+            &mut marks[style::MARKS..],
+        );
+        return output;
     }
-    compute_block_layout(words, numbers, rows, marks, edits, base, depth, q, 0.0)
+    compute_block_layout(words, numbers, rows, marks, edits, base, depth, input, 0.0)
 }

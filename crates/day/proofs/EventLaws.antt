@@ -1,5 +1,5 @@
 -- What the functions of one event promise, put together. Assumes nothing.
-use mathlib.Core.Path.{_≡_, refl, sym, _∙_}
+use mathlib.Core.Path.{_≡_, refl, sym, _∙_, ap}
 use mathlib.Core.Bool.{Bool, true, false}
 use mathlib.Core.List.{List}
 use Prim.Native.Nat.{ℕ, min}
@@ -13,8 +13,9 @@ use Rattle.steps.specs.Noes.{paper}
 use Rattle.steps.specs.Results.{Reply}
 use Rattle.steps.specs.declared.Answer.{Answer}
 use Rattle.layout.specs.Public.{Replied}
-use Rattle.day.specs.Day.{day, left, callEvent, countAfter}
+use Rattle.day.specs.Day.{Outcome, day, left, callEvent, countAfter, EventReplied}
 use Rattle.day.specs.declared.State.{State}
+use Rattle.day.specs.declared.Turn.{Turn}
 
 -- an accepted call, and a refused one
 pub emptied : (a : Answer) (c : ℕ) → paper a .0 ≡ 0 → 0 ≡ countAfter a c
@@ -43,3 +44,7 @@ pub called : (s : State) (ws : List ℕ) (xs rs : List Float) (ms cw : List ℕ)
     → left (record { answer = a; state = record { question = s .question; count = c } }) ws xs rs′ ms′ cw′ cx′ l ≡ callEvent want (day s ws xs rs ms cw cx l)
 unfolding callEvent
 called s ws xs rs ms cw cx l want a c rs′ ms′ cw′ cx′ r e = rw (e, r .answer-is, r .rows-are, r .marks-are, r .words-are, r .numbers-are)
+
+-- the outcome has its answer's number and place
+pub told : {want : Outcome} {t : Turn} {ws : List ℕ} {xs rs : List Float} {ms cw : List ℕ} {cx : List Float} {l : List ℕ} → left t ws xs rs ms cw cx l ≡ want → EventReplied want t ws xs rs ms cw cx l
+told e = record { left-is = e; paper-is = ap (λ (o : Outcome). paper (o .answer)) e }

@@ -1,4 +1,5 @@
 -- A day of a display: what one event answers and leaves, and a trace of events one after the other.
+use mathlib.Core.Path.{_≡_}
 use mathlib.Core.Bool.{Bool, cond}
 use mathlib.Core.List.{List, [], _∷_}
 use Prim.Native.Nat.{ℕ}
@@ -111,6 +112,11 @@ eventResult (event.Word x) d = editEvent (wordEdit x (d .page)) (d .question) d
 eventResult (event.Ask a) d = editEvent (d .page) (asked a (d .question)) d
 eventResult event.Relayout d = relayoutEvent d
 eventResult event.Layout d = layoutEvent d
+
+-- what one event promises: its answer, by its number and place too, and all that it leaves are the definition's
+pub record EventReplied (want : Outcome) (t : Turn) (ws : List ℕ) (xs rs : List Float) (ms cw : List ℕ) (cx : List Float) (l : List ℕ) : Type 0 where
+  pub left-is : left t ws xs rs ms cw cx l ≡ want
+  pub paper-is : paper (t .answer) ≡ paper (want .answer)
 
 -- the day after some events
 unfoldable pub dayAfter : List Event → Day → Day

@@ -2,7 +2,7 @@
 ghost use mathlib.Core.Path.{_≡_};
 ghost use mathlib.Core.List.{List};
 ghost use Prim.Native.Nat.{ℕ};
-ghost use Rattle.day.specs.Day.{withNumbers, asked, countAfter, doneTurn, day, left, layoutEvent, relayoutEvent, eventResult};
+ghost use Rattle.day.specs.Day.{withNumbers, asked, countAfter, doneTurn, day, left, layoutEvent, relayoutEvent, eventResult, EventReplied};
 use length::AvailableSpace;
 use lent::smaller;
 use sheet::NodeNumber;
@@ -159,7 +159,7 @@ pub fn step(
     triples: &mut [f32],
     list: &mut [u32],
 ) -> Turn
-    ensures { λ r. ⌜ left r (now (words .exit)) (now (numbers .exit)) (now (rows .exit)) (now (marks .exit)) (now (pairs .exit)) (now (triples .exit)) (now (list .exit)) ≡ eventResult e (day s (now (words .entry)) (now (numbers .entry)) (now (rows .entry)) (now (marks .entry)) (now (pairs .entry)) (now (triples .entry)) (now (list .entry))) ⌝ }
+    ensures { λ r. ⌜ EventReplied (eventResult e (day s (now (words .entry)) (now (numbers .entry)) (now (rows .entry)) (now (marks .entry)) (now (pairs .entry)) (now (triples .entry)) (now (list .entry)))) r (now (words .exit)) (now (numbers .exit)) (now (rows .exit)) (now (marks .exit)) (now (pairs .exit)) (now (triples .exit)) (now (list .exit)) ⌝ }
 {
     let question = s.question;
     match e {

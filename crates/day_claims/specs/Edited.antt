@@ -44,20 +44,20 @@ and-right false b e = absurd (true≢false (sym e))
 
 -- a number of a node
 module _ (x : NodeNumber) (s : Sheet) where
-  number-done : x .node < nodesIn (s .words) → Edited (x .node) s (editOf (x .node) (s .words) (set (s .numbers) (numberPlace (nodesIn (s .words)) (x .node) (x .field)) (x .value)) s)
+  number-done : x .node .0 < nodesIn (s .words) → Edited (x .node .0) s (editOf (x .node .0) (s .words) (set (s .numbers) (numberPlace (nodesIn (s .words)) (x .node .0) (x .field)) (x .value)) s)
   unfolding editOf
   number-done h =
       record {
         shape = record { nodes = refl; sizes = λ i l. refl };
-        others = λ plane j o. changed (s .words) (s .numbers) (nodesIn (s .words)) (x .node) (numberPlace (nodesIn (s .words)) (x .node) (x .field)) (x .value) j plane (place-node (x .field) h) o;
-        plane = rw (length-set (s .numbers) (numberPlace (nodesIn (s .words)) (x .node) (x .field)) (x .value));
+        others = λ plane j o. changed (s .words) (s .numbers) (nodesIn (s .words)) (x .node .0) (numberPlace (nodesIn (s .words)) (x .node .0) (x .field)) (x .value) j plane (place-node (x .field) h) o;
+        plane = rw (length-set (s .numbers) (numberPlace (nodesIn (s .words)) (x .node .0) (x .field)) (x .value));
         list-is = refl;
         count-is = refl;
       }
 
   number-by : (b : Bool) → hasNumber x s ≡ b → Step s (numberEdit x s)
   unfolding numberEdit hasNumber
-  number-by true e = rw e (edit (x .node) _ (number-done (ltb-true (x .node) (nodesIn (s .words)) (and-left _ _ e))))
+  number-by true e = rw e (edit (x .node .0) _ (number-done (ltb-true (x .node .0) (nodesIn (s .words)) (and-left _ _ e))))
   number-by false e = rw e nothing
 
   pub number-step : Step s (numberEdit x s)
@@ -65,19 +65,19 @@ module _ (x : NodeNumber) (s : Sheet) where
 
 -- a word of a node
 module _ (x : NodeWord) (s : Sheet) where
-  apart : (j k : ℕ) → k < 4 → 0 < x .word → x .word ≤ 3 → (j ≡ x .node → ⊥) → wordAt (s .words) j k ≡ wordAt (set (s .words) (x .node * 4 + x .word) (x .bits)) j k
+  apart : (j k : ℕ) → k < 4 → 0 < x .word → x .word ≤ 3 → (j ≡ x .node .0 → ⊥) → wordAt (s .words) j k ≡ wordAt (set (s .words) (x .node .0 * 4 + x .word) (x .bits)) j k
   unfolding wordAt
-  apart j k l p g o = sym (getD-set-other (s .words) (x .node * 4 + x .word) (j * 4 + k) (x .bits) 0 (λ e. o (omega arith)))
+  apart j k l p g o = sym (getD-set-other (s .words) (x .node .0 * 4 + x .word) (j * 4 + k) (x .bits) 0 (λ e. o (omega arith)))
 
-  size-stays : (j : ℕ) → 0 < x .word → x .word ≤ 3 → wordAt (s .words) j 0 ≡ wordAt (set (s .words) (x .node * 4 + x .word) (x .bits)) j 0
+  size-stays : (j : ℕ) → 0 < x .word → x .word ≤ 3 → wordAt (s .words) j 0 ≡ wordAt (set (s .words) (x .node .0 * 4 + x .word) (x .bits)) j 0
   unfolding wordAt
-  size-stays j p g = sym (getD-set-other (s .words) (x .node * 4 + x .word) (j * 4 + 0) (x .bits) 0 (λ e. omega arith))
+  size-stays j p g = sym (getD-set-other (s .words) (x .node .0 * 4 + x .word) (j * 4 + 0) (x .bits) 0 (λ e. omega arith))
 
-  word-done : 0 < x .word → x .word ≤ 3 → Edited (x .node) s (editOf (x .node) (set (s .words) (x .node * 4 + x .word) (x .bits)) (s .numbers) s)
+  word-done : 0 < x .word → x .word ≤ 3 → Edited (x .node .0) s (editOf (x .node .0) (set (s .words) (x .node .0 * 4 + x .word) (x .bits)) (s .numbers) s)
   unfolding editOf
   word-done p g =
       record {
-        shape = record { nodes = ap (λ (n : ℕ). n / 4) (sym (length-set (s .words) (x .node * 4 + x .word) (x .bits))); sizes = λ j l. size-stays j p g };
+        shape = record { nodes = ap (λ (n : ℕ). n / 4) (sym (length-set (s .words) (x .node .0 * 4 + x .word) (x .bits))); sizes = λ j l. size-stays j p g };
         others = λ plane j o. record { words = λ k l. apart j k l p g o; numbers = λ f l. refl };
         plane = refl;
         list-is = refl;
@@ -87,8 +87,8 @@ module _ (x : NodeWord) (s : Sheet) where
   word-by : (b : Bool) → hasWord x s ≡ b → Step s (wordEdit x s)
   unfolding wordEdit hasWord
   word-by true e =
-      let z = and-right (ltb (x .node) (nodesIn (s .words))) _ e in
-      rw e (edit (x .node) _ (word-done (ltb-true 0 (x .word) (and-left (ltb 0 (x .word)) (leb (x .word) 3) z)) (leb-true (x .word) 3 (and-right (ltb 0 (x .word)) (leb (x .word) 3) z))))
+      let z = and-right (ltb (x .node .0) (nodesIn (s .words))) _ e in
+      rw e (edit (x .node .0) _ (word-done (ltb-true 0 (x .word) (and-left (ltb 0 (x .word)) (leb (x .word) 3) z)) (leb-true (x .word) 3 (and-right (ltb 0 (x .word)) (leb (x .word) 3) z))))
   word-by false e = rw e nothing
 
   pub word-step : Step s (wordEdit x s)

@@ -1,17 +1,15 @@
--- What it says of the words that 1 is not due, and of the table that 1 and 2 are not; 3 where no numbers are lent.
-use mathlib.Core.Path.{_≡_, ap, fun-ext}
-use mathlib.Core.Bool.{Bool, false}
-use mathlib.Core.List.{List, []}
+-- What it says of the words that 1 is not due, and of the table that 1 and 2 are not.
+use mathlib.Core.Path.{_≡_}
+use mathlib.Core.Bool.{false}
+use mathlib.Core.List.{List}
 use Prim.Native.Nat.{ℕ, _*_, _<_, _≤_}
 use native.Mathlib.Omega.{arith}
 use lib.ListN.{length}
 use lib.Dec.{eqb, ltb}
-use lib.Ieee.{eq, ofBits}
 use borrow.Author.Tests.{ltb-false, eqb-false, eqb-true, not-false}
 use Rattle.limits.specs.Bools.{or-left, or-right}
-use Rattle.style.specs.Planes.{number-none}
 use Rattle.steps.specs.Page.{nodesIn}
-use Rattle.steps.specs.Noes.{badTree, badCodes, ratioBesideFraction, badStyle, no3By, no3}
+use Rattle.steps.specs.Noes.{badTree}
 use Rattle.tables.specs.Refusals.{Sound}
 use Rattle.tables.specs.TreeCheck.{GoodTable}
 use Rattle.tables.proofs.ScanLaws.{nowhere-lowest}
@@ -37,12 +35,3 @@ pub good-words : (ws : List ℕ) → badWords ws ≡ false → Sound (badTree ws
 good-words ws e s =
     let w = worded ws e in
     record { some = w .some; few = w .few; sound = nowhere-lowest (badTree ws) (nodesIn ws) s }
-
--- with no numbers no node has a ratio: 3 is by the words alone
-style-alone : (ws : List ℕ) (i : ℕ) → badStyle ws [] i ≡ badCodes ws i
-unfolding badStyle ratioBesideFraction eq ofBits
-style-alone ws i = rw (number-none i 22)
-
-pub words-alone : (ws : List ℕ) → no3 ws [] ≡ no3By (badCodes ws) ws
-unfolding no3
-words-alone ws = ap (λ (bad : ℕ → Bool). no3By bad ws) (fun-ext (style-alone ws))

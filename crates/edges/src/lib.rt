@@ -11,17 +11,17 @@ use style::word;
 fn bad_words(words: &[u32]) -> bool
     ensures { λ r. ⌜ r ≡ badWords (now (words .entry)) ⌝ }
 {
-    let n = words.len() / 4;
+    let n = words.len() / style::WORDS;
     if n == 0 {
         return true;
     }
-    if 1024 < n {
+    if tree::MAX_NODES < n {
         return true;
     }
-    words.len() != 4 * n
+    words.len() != style::WORDS * n
 }
 
-// 1, 2, 3 by the words alone (with no numbers there is no ratio), and 7.
+// 1, 2, 3 by the words alone, and 7.
 pub fn rows_tested(words: &[u32], rows: &[f32], marks: &[u32]) -> Tested
     ensures { λ r. ⌜ r ≡ rowsTested (now (words .entry)) (now (rows .entry)) (now (marks .entry)) ⌝ }
 {
@@ -34,7 +34,7 @@ pub fn rows_tested(words: &[u32], rows: &[f32], marks: &[u32]) -> Tested
     if let Tested::Refuse(a) = tables::tree_tested(words) {
         return Tested::Refuse(a);
     }
-    if let Tested::Refuse(a) = tables::codes_tested(words, &rows[..0]) {
+    if let Tested::Refuse(a) = tables::words_tested(words) {
         return Tested::Refuse(a);
     }
     tables::root_tested(marks)
@@ -45,8 +45,8 @@ pub fn row_number(rows: &[f32], i: usize, f: usize) -> f32
     requires { ⌜ f < 16 ⌝ }
     ensures { λ r. ⌜ r ≡ rowNumber (now (rows .entry)) i f ⌝ }
 {
-    if i <= rows.len() / 16 {
-        let at = 16 * i + f;
+    if i <= rows.len() / style::ROW {
+        let at = style::ROW * i + f;
         if at < rows.len() {
             return rows[at];
         }
@@ -63,7 +63,7 @@ pub fn near_edge(words: &[u32], rows: &[f32], f: usize, i: usize) -> f32
     let mut j = i;
     while 0 < j {
         j -= 1;
-        if i - j < word(words, j, 0) as usize {
+        if i - j < word(words, j, style::SIZE) as usize {
             edge = edge + row_number(rows, j, f);
         }
     }

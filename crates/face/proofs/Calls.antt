@@ -58,7 +58,7 @@ indexed {w} {a} {r} {ts} {bs} {ls} s h =
     record { answer-is = subst (λ (x : IndexAnswer). Halves (indexPaper x) r) (s .answer-is) h; tops-are = s .tops-are; bottoms-are = s .bottoms-are; running-is = s .running-is }
 
 -- what the scroll key found, or that it was refused
-pub scrolled : {a b : ScrollAnswer} {p : ℕ × ℕ} {r : ℕ} {lent found : List ℕ} → a ≡ b → scrollPaper b ≡ p → found ≡ foundIn b lent → Halves p r → Scrolled a lent r found
+pub scrolled : {a b : ScrollAnswer} {p : ℕ × ℕ} {r : ℕ} {lent found : List ℕ} → a ≡ b → scrollPaper b .0 ≡ p → found ≡ foundIn b lent → Halves p r → Scrolled a lent r found
 scrolled {a} {b} {p} {r} {lent} {found} e f g h =
     subst (λ (x : ScrollAnswer). Scrolled x lent r found) (sym e) record { answer-is = subst (λ (q : ℕ × ℕ). Halves q r) (sym f) h; found-is = g }
 

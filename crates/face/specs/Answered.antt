@@ -41,7 +41,7 @@ foundIn Nothing lent = 0xffff_ffff_ffff_ffff ∷ []
 foundIn NotFinite lent = lent
 
 pub record Scrolled (want : ScrollAnswer) (lent : List ℕ) (r : ℕ) (found : List ℕ) : Type 0 where
-  pub answer-is : Halves (scrollPaper want) r
+  pub answer-is : Halves (scrollPaper want .0) r
   pub found-is : found ≡ foundIn want lent
 
 -- the coarse panel: the answer and the output

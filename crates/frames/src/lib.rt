@@ -1,5 +1,6 @@
 // Step I: a container's frame (the crate's compute_inner up to its items).
 ghost use mathlib.Core.Path.{_≡_};
+ghost use mathlib.Core.Bool.{not};
 ghost use Rattle.style.specs.Flow.{isIn};
 ghost use mathlib.Core.List.{List};
 ghost use Prim.Native.Nat.{_<_, _≤_};
@@ -23,7 +24,7 @@ use style::Overflow;
 use util::OptionF32;
 use util::OptionSize;
 
-fn is_clipping(o: Overflow) -> bool
+fn is_scroll_container(o: Overflow) -> bool
     ensures { λ r. ⌜ r ≡ clips o ⌝ }
 {
     match o {
@@ -57,14 +58,14 @@ fn establishes_new_bfc(r: Reader) -> bool
     let ox = o.x;
     let oy = o.y;
     let align = style::align_of(r.style);
-    if is_clipping(ox) {
+    if is_scroll_container(ox) {
         return true;
     }
-    if is_clipping(oy) {
+    if is_scroll_container(oy) {
         return true;
     }
     if is_align_normal(align) {
-        return style::flag(r.style, 12);
+        return style::flag(r.style, style::CONTAINED);
     }
     true
 }
@@ -80,7 +81,7 @@ fn is_in(f: Flow) -> bool
 }
 
 // Step I: an in-flow block without new context.
-pub fn is_plain_block(r: Reader) -> bool
+pub fn is_in_same_bfc(r: Reader) -> bool
     ensures { λ b. ⌜ ((xs : List Float) → b ≡ plainBlock (styleIn r xs)) ⌝ }
 {
     let kind = style::kind_of(r.style);
@@ -94,7 +95,7 @@ pub fn is_plain_block(r: Reader) -> bool
 }
 
 // An edge of a box that is a plain block or not.
-fn edge_adjoins(plain: bool, flag: bool, padding: f32, border: f32) -> bool
+fn children_margins_adjoin_own_edge(plain: bool, flag: bool, padding: f32, border: f32) -> bool
     ensures { λ r. ⌜ ((s : Style) → plainBlock s ≡ plain → r ≡ adjoins s flag padding border) ⌝ }
 {
     if flag {
@@ -107,38 +108,50 @@ fn edge_adjoins(plain: bool, flag: bool, padding: f32, border: f32) -> bool
     false
 }
 
-fn is_open_box(padding: Rect, border: Rect) -> bool
-    ensures { λ r. ⌜ r ≡ openBox padding border ⌝ }
+// A padding or a border above 0, over the content or under it.
+fn has_vertical_edges(padding: Rect, border: Rect) -> bool
+    ensures { λ r. ⌜ not r ≡ openBox padding border ⌝ }
 {
     if 0.0 < padding.top {
-        return false;
+        return true;
     }
     if 0.0 < padding.bottom {
-        return false;
+        return true;
     }
     if 0.0 < border.top {
-        return false;
+        return true;
     }
-    !(0.0 < border.bottom)
+    0.0 < border.bottom
 }
 
-// May the box be through, but for its height and its children?
-fn is_hollow(plain: bool, nested: bool, padding: Rect, border: Rect) -> bool
-    ensures { λ r. ⌜ ((s : Style) → plainBlock s ≡ plain → r ≡ hollowBox s nested padding border) ⌝ }
+// Does the box itself keep margins from passing through, whatever its height and its children?
+fn has_styles_preventing_being_collapsed_through(
+    plain: bool,
+    nested: bool,
+    padding: Rect,
+    border: Rect,
+) -> bool
+    ensures { λ r. ⌜ ((s : Style) → plainBlock s ≡ plain → not r ≡ hollowBox s nested padding border) ⌝ }
 {
     if nested {
         if plain {
-            return is_open_box(padding, border);
+            return has_vertical_edges(padding, border);
         }
     }
-    false
+    true
 }
 
 // Own end: the end adjoins and step A gave no height.
-fn own_end(plain: bool, flag: bool, padding: f32, border: f32, height: OptionF32) -> bool
+fn own_end_margins_collapse_with_children(
+    plain: bool,
+    flag: bool,
+    padding: f32,
+    border: f32,
+    height: OptionF32,
+) -> bool
     ensures { λ r. ⌜ ((s : Style) → plainBlock s ≡ plain → r ≡ ownEndOf s flag padding border height) ⌝ }
 {
-    if edge_adjoins(plain, flag, padding, border) {
+    if children_margins_adjoin_own_edge(plain, flag, padding, border) {
         return !height.is_some();
     }
     false
@@ -188,8 +201,9 @@ fn framed_by(
     let sh = size.height;
     let lo = min.height;
     let hi = max.height;
-    let plain = is_plain_block(r);
+    let plain = is_in_same_bfc(r);
     let inset = sizing::content_box_inset(r, numbers, both);
+    let prevented = has_styles_preventing_being_collapsed_through(plain, q.nested, padding, border);
     Frame {
         width,
         height,
@@ -198,10 +212,16 @@ fn framed_by(
         minHeight: lo,
         maxHeight: hi,
         heightBasis: basis_below(q, known, inset),
-        ownStart: edge_adjoins(plain, q.collapseStart, padding.top, border.top),
-        ownEnd: own_end(plain, q.collapseEnd, padding.bottom, border.bottom, sh),
-        hollow: is_hollow(plain, q.nested, padding, border),
-        rtl: style::flag(r.style, 3),
+        ownStart: children_margins_adjoin_own_edge(plain, q.collapseStart, padding.top, border.top),
+        ownEnd: own_end_margins_collapse_with_children(
+            plain,
+            q.collapseEnd,
+            padding.bottom,
+            border.bottom,
+            sh,
+        ),
+        hollow: !prevented,
+        rtl: style::flag(r.style, style::RTL),
     }
 }
 
@@ -213,7 +233,7 @@ fn frame_of(r: Reader, numbers: &[f32], q: LayoutInput, found: f32) -> Frame
     let parent = q.parent;
     let asked = q.known;
     let basis = q.basis;
-    let z = sizing::sizing_in(r, numbers, parent, basis);
+    let z = sizing::sizing_of(r, numbers, parent, basis);
     let known = sizing::known_dimensions(reader::ratio(r, numbers), z, asked);
     let w = known.width;
     framed_by(r, numbers, q, z, known, w.unwrap_or(found))

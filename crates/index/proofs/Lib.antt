@@ -3,3 +3,4 @@ pub mod Exact
 pub mod Making
 pub mod Testing
 pub mod Leaving
+pub mod Settled

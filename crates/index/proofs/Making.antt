@@ -83,12 +83,12 @@ module _ (ws : List ℕ) (rs : List Float) (ms list : List ℕ) (ts bs ls : List
       let a = accepted e in
       let t = h .tops-are ∙ tops-same a in
       let b = h .bottoms-are ∙ bottoms-same a in
-      rw e (record { answer-is = refl; tops-are = t; bottoms-are = b; running-is = q ∙ ap runningOf b })
+      rw e (record { answer-is = refl; paper-is = refl; tops-are = t; bottoms-are = b; running-is = q ∙ ap runningOf b })
 
   pub refused : (a : Answer) → indexAnswer ws rs ms list (length ts) (length bs) (length ls) ≡ Refused a → Indexed (indexResult ws rs ms list ts bs ls) (Refused a) ts bs ls
   unfolding indexResult byAnswer
-  refused a e = rw e (record { answer-is = refl; tops-are = refl; bottoms-are = refl; running-is = refl })
+  refused a e = rw e (record { answer-is = refl; paper-is = refl; tops-are = refl; bottoms-are = refl; running-is = refl })
 
   pub bad-list : (k : ℕ) → indexAnswer ws rs ms list (length ts) (length bs) (length ls) ≡ BadEntry k → Indexed (indexResult ws rs ms list ts bs ls) (BadEntry k) ts bs ls
   unfolding indexResult byAnswer
-  bad-list k e = rw e (record { answer-is = refl; tops-are = refl; bottoms-are = refl; running-is = refl })
+  bad-list k e = rw e (record { answer-is = refl; paper-is = refl; tops-are = refl; bottoms-are = refl; running-is = refl })

@@ -82,9 +82,10 @@ byAnswer (BadEntry k) new ts bs ls = record { answer = BadEntry k; tops = ts; bo
 unfoldable pub indexResult : List ℕ → List Float → List ℕ → List ℕ → List Float → List Float → List Float → Index
 indexResult ws rs ms list ts bs ls = byAnswer (indexAnswer ws rs ms list (length ts) (length bs) (length ls)) (indexOf ws rs list) ts bs ls
 
--- what the call promises: the answer and every lent word are the definition's
+-- what the call promises: the answer, by its number and place too, and every lent word are the definition's
 pub record Indexed (want : Index) (answer : IndexAnswer) (ts bs ls : List Float) : Type 0 where
   pub answer-is : answer ≡ want .answer
+  pub paper-is : indexPaper answer ≡ indexPaper (want .answer)
   pub tops-are : ts ≡ want .tops
   pub bottoms-are : bs ≡ want .bottoms
   pub running-is : ls ≡ want .running

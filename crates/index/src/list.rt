@@ -15,8 +15,8 @@ use style::word;
 fn bits_at(marks: &[u32], i: usize) -> u32
     ensures { λ r. ⌜ r ≡ bitsAt (now (marks .entry)) i ⌝ }
 {
-    if i < marks.len() / 2 {
-        return marks[2 * i + 1];
+    if i < marks.len() / style::MARKS {
+        return marks[style::MARKS * i + 1];
     }
     0
 }
@@ -41,13 +41,13 @@ fn bad_entry(words: &[u32], marks: &[u32], list: &[u32], k: usize) -> bool
     if not_above(list, k) {
         return true;
     }
-    if words.len() / 4 <= i {
+    if words.len() / style::WORDS <= i {
         return true;
     }
-    if code(word(words, i, 1), 0) != 1 {
+    if code(word(words, i, style::STYLE), style::KIND) != 1 {
         return true;
     }
-    !flag(bits_at(marks, i), 0)
+    !flag(bits_at(marks, i), steps::LAID)
 }
 
 // 9: how many of the entries are looked at.

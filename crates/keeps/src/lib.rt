@@ -1,12 +1,15 @@
 // Whether the rows of a page keep their order: a yes or no by its tables alone.
 ghost use mathlib.Core.Path.{_≡_};
+ghost use Prim.Native.Nat.{_<_};
+ghost use Rattle.style.specs.Style.{rectAt, styleAt};
 ghost use Rattle.order.specs.Class.{fair, whole, still, unshifted, fairDown, wholeDown, steady, keepsOrder};
 use length::Length;
-use length::LengthRect;
 use style::AlignContent;
 use style::Position;
-use style::Style;
-use style::style_at;
+use style::align_of;
+use style::length_at;
+use style::position_of;
+use style::word;
 
 // A margin that is auto, or pixels not below 0.
 fn fair(l: Length) -> bool
@@ -57,45 +60,41 @@ fn unshifted(a: AlignContent) -> bool
     }
 }
 
-// Of the top and of the bottom.
-fn fair_down(r: LengthRect) -> bool
-    ensures { λ b. ⌜ b ≡ fairDown r ⌝ }
+// Of the top and of the bottom of node i; the four fields of its margin begin with f.
+fn fair_down(words: &[u32], numbers: &[f32], i: usize, f: usize) -> bool
+    requires { ⌜ f < 20 ⌝ }
+    ensures { λ b. ⌜ b ≡ fairDown (rectAt (now (words .entry)) i (now (numbers .entry)) i f) ⌝ }
 {
-    let top = r.top;
-    let bottom = r.bottom;
-    fair(top) && fair(bottom)
+    fair(length_at(words, i, numbers, i, f)) && fair(length_at(words, i, numbers, i, f + 2))
 }
 
-fn whole_down(r: LengthRect) -> bool
-    ensures { λ b. ⌜ b ≡ wholeDown r ⌝ }
+// Of its padding or its border likewise.
+fn whole_down(words: &[u32], numbers: &[f32], i: usize, f: usize) -> bool
+    requires { ⌜ f < 20 ⌝ }
+    ensures { λ b. ⌜ b ≡ wholeDown (rectAt (now (words .entry)) i (now (numbers .entry)) i f) ⌝ }
 {
-    let top = r.top;
-    let bottom = r.bottom;
-    whole(top) && whole(bottom)
+    whole(length_at(words, i, numbers, i, f)) && whole(length_at(words, i, numbers, i, f + 2))
 }
 
-// All of it, of one node.
-fn steady(s: Style) -> bool
-    ensures { λ r. ⌜ r ≡ steady s ⌝ }
+// All of it, of node i. What is not lent reads as 0: a reader asks for a node whose numbers are there.
+fn steady(words: &[u32], numbers: &[f32], i: usize) -> bool
+    ensures { λ r. ⌜ r ≡ steady (styleAt (now (words .entry)) i (now (numbers .entry)) i) ⌝ }
 {
-    let margin = s.margin;
-    let padding = s.padding;
-    let border = s.border;
-    let position = s.position;
-    let align = s.align;
-    fair_down(margin)
-        && (whole_down(padding) && (whole_down(border) && (still(position) && unshifted(align))))
+    let w = word(words, i, style::STYLE);
+    fair_down(words, numbers, i, style::MARGIN)
+        && (whole_down(words, numbers, i, style::PADDING)
+            && (whole_down(words, numbers, i, style::BORDER)
+                && (still(position_of(w)) && unshifted(align_of(w)))))
 }
 
 // Of every node. Tables that a layout refuses have an answer too: a read past their end gives 0.
 pub fn keeps_order(words: &[u32], numbers: &[f32]) -> bool
     ensures { λ r. ⌜ r ≡ keepsOrder (now (words .entry)) (now (numbers .entry)) ⌝ }
 {
-    let n = words.len() / 4;
+    let n = words.len() / style::WORDS;
     let mut i = 0;
     while i < n {
-        let s = style_at(words, i, numbers, i);
-        if !steady(s) {
+        if !steady(words, numbers, i) {
             return false;
         }
         i += 1;

@@ -7,12 +7,14 @@ ghost use Rattle.steps.specs.Noes.{badRow};
 ghost use Rattle.layout.specs.Public.{Replied, IsPage, Finishes, IsCells, Relays};
 ghost use Rattle.steps.specs.Question.{rootInput};
 ghost use Rattle.steps.specs.Results.{layoutResult, relayoutResult};
+use compute::compute_block_layout;
 use steps::Answer;
 use steps::Found;
 use steps::LayoutInput;
 use steps::Question;
 use steps::Tested;
 use steps::root_input;
+use tree::MAX_DEPTH;
 use tree::NodeId;
 
 // Is one of the 16 numbers of row i too large?
@@ -21,8 +23,8 @@ fn row_large(rows: &[f32], i: usize) -> bool
     ensures { λ r. ⌜ r ≡ badRow (now (rows .entry)) i ⌝ }
 {
     let mut k = 0usize;
-    while k < 16 {
-        if limits::too_large(rows[16 * i + k]) {
+    while k < style::ROW {
+        if limits::too_large(rows[style::ROW * i + k]) {
             return true;
         }
         k += 1;
@@ -57,7 +59,7 @@ fn finish_page(
     requires { ⌜ IsPage (now words) (now rows) (now marks) (now pairs) (now triples) ⌝ }
     ensures { λ r. ⌜ Finishes (now (words .entry)) (now (rows .entry)) (now (marks .entry)) (now (pairs .entry)) (now (triples .entry)) r (now (rows .exit)) (now (marks .exit)) (now (pairs .exit)) (now (triples .exit)) ⌝ }
 {
-    let found = first_large(rows, words.len() / 4);
+    let found = first_large(rows, words.len() / style::WORDS);
     match found {
         Found::At(i) => {
             rows::clear(rows);
@@ -65,7 +67,14 @@ fn finish_page(
             Answer::TooLarge(i)
         }
         Found::Nowhere => {
-            let n = candidates::gather(&words[4..], &rows[16..], &marks[2..], 1, pairs, triples);
+            let n = candidates::gather(
+                &words[style::WORDS..],
+                &rows[style::ROW..],
+                &marks[style::MARKS..],
+                1,
+                pairs,
+                triples,
+            );
             Answer::Done(n as u32)
         }
     }
@@ -86,7 +95,7 @@ fn relay(
     ensures { λ r. ⌜ Relays (now (words .entry)) (now (numbers .entry)) (now (rows .entry)) (now (marks .entry)) (now (edits .entry)) (now (pairs .entry)) (now (triples .entry)) q r (now (rows .exit)) (now (marks .exit)) (now (pairs .exit)) (now (triples .exit)) ⌝ }
 {
     let found = probing::width_pass(words, numbers, rows, marks, edits, q);
-    let _out = compute::compute_block_layout(words, numbers, rows, marks, edits, 0, 32, q, found);
+    let _out = compute_block_layout(words, numbers, rows, marks, edits, 0, MAX_DEPTH, q, found);
     finish_page(words, rows, marks, pairs, triples)
 }
 

@@ -66,7 +66,7 @@ pub fn is_auto(l: Length) -> bool
 }
 
 impl LengthRect {
-    pub fn resolve_sides(self, basis: OptionF32) -> Rect
+    pub fn resolve_or_zero(self, basis: OptionF32) -> Rect
         ensures { λ r. ⌜ r ≡ resolvedRect self basis ⌝ }
     {
         let top = self.top;
@@ -83,7 +83,7 @@ impl LengthRect {
 }
 
 impl LengthSize {
-    pub fn resolve_axes(self, across: OptionF32, down: OptionF32) -> OptionSize
+    pub fn maybe_resolve(self, across: OptionF32, down: OptionF32) -> OptionSize
         ensures { λ r. ⌜ r ≡ resolvedSize self across down ⌝ }
     {
         let width = self.width;
@@ -96,7 +96,7 @@ impl LengthSize {
 }
 
 impl AvailableSpace {
-    pub fn less(self, x: f32) -> AvailableSpace
+    pub fn maybe_sub(self, x: f32) -> AvailableSpace
         ensures { λ r. ⌜ r ≡ availableLess self x ⌝ }
     {
         match self {

@@ -4,7 +4,8 @@ ghost use Prim.Native.Nat.{min};
 ghost use lib.ListN.{getD};
 ghost use Rattle.geometry.specs.Geometry.{zeroF};
 
-// 0 past the end.
+// Element i of any list, a row's or a record's, and 0 past the end. (A node's number is read by style::number_in, which
+// alone goes by planes.)
 pub fn number_at(numbers: &[f32], i: usize) -> f32
     ensures { λ r. ⌜ r ≡ getD (now (numbers .entry)) i zeroF ⌝ }
 {

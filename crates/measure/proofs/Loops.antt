@@ -116,11 +116,8 @@ stack-turn ws xs b f (node l ks) c i e ed s lt =
       next = k .next;
     }
 
-abbrev pub StackEndT : Frame → Tree Site → Cursor → Type 0
-StackEndT f (node l ks) c = c ≡ sizeF ks f (startOf f)
-
-pub stack-end : (ws : List ℕ) (xs : List Float) (b : ℕ) (f : Frame) (t : Tree Site) (c : Cursor) (i : ℕ) → StackRestT ws xs b f t c i → length ws ≤ 4 * i → StackEndT f t c
-stack-end ws xs b f (node l ks) c i = end (λ us d. sizeF us f d) (λ d t. pastT f d t) (sizeF-none f) (λ t us d. sizeF-more t us f d) ws xs b ks (startOf f) c i
+pub stack-end : (ws : List ℕ) (xs : List Float) (b : ℕ) (f : Frame) (l : Site) (ks : Forest Site) (c : Cursor) (i : ℕ) → StackRestT ws xs b f (node l ks) c i → length ws ≤ 4 * i → c ≡ sizeF ks f (startOf f)
+stack-end ws xs b f l ks c i = end (λ us d. sizeF us f d) (λ d t. pastT f d t) (sizeF-none f) (λ t us d. sizeF-more t us f d) ws xs b ks (startOf f) c i
 
 -- the counts of the cursor: none at the start, one more past each child
 pub past-counts : (f : Frame) (c d : Cursor) (t : Tree Site) → d ≡ pastT f c t → (d .count ≡ c .count + 1) × (d .shown .0 ≤ c .shown .0 + 1)

@@ -20,7 +20,7 @@ use Rattle.steps.specs.declared.Frame.{Frame}
 use Rattle.steps.specs.declared.Cursor.{Cursor}
 use Rattle.steps.proofs.Clauses.{layT-leaf, layT-block, layF-none, askT-new}
 use Rattle.steps.proofs.Zeros.{no-row, unlaid-kept}
-use Rattle.compute.specs.Contract.{placedIn, placedBy, placedT}
+use Rattle.compute.proofs.Placed.{placedIn, placedBy, placedT}
 use Rattle.compute.proofs.OneChild.{layF-more}
 use Rattle.measure.specs.Dry.{sizeT, sizeF, pastBy, pastT}
 use Rattle.measure.proofs.DryClauses.{sizeT-leaf, sizeT-block, sizeF-none, sizeF-more}

@@ -1,12 +1,13 @@
 -- What each function of the two cycles does with one tree, in plain terms.
 use mathlib.Core.Path.{_≡_, refl, sym, ap, _∙_}
-use mathlib.Core.Bool.{Bool, true, false}
+use mathlib.Core.Bool.{Bool, true, false, cond, true≢false}
 use mathlib.Core.List.{List}
 use Prim.Native.Nat.{ℕ, _+_, _-_}
 use lib.ListN.{length, take, drop}
 use lib.Ieee.{Float}
 use Rattle.geometry.specs.Geometry.{zeroF}
 use Rattle.util.specs.Math.{larger}
+use Rattle.util.specs.Maybe.{isSome}
 use Rattle.util.specs.declared.OptionF32.{OptionF32}
 use Rattle.util.specs.declared.OptionF32.the-variants.{None, Some}
 use Rattle.util.specs.declared.OptionSize.{OptionSize}
@@ -34,14 +35,19 @@ use Rattle.steps.specs.declared.BlockItem.{BlockItem}
 use Rattle.steps.specs.declared.Sizing.{Sizing}
 use Rattle.stacking.specs.Footing.{footingOf, itemWith, with-footing}
 use Rattle.stacking.specs.declared.Footing.{Footing}
-use Rattle.steps.specs.declared.Finished.{Finished}
+use Rattle.heights.specs.declared.StackOutput.{StackOutput}
+use Rattle.widths.specs.AtOnce.{widthAtOnce}
 use Rattle.steps.specs.declared.Frame.{Frame}
 use Rattle.steps.specs.declared.Cursor.{Cursor}
 use Rattle.measure.specs.Dry.{widthBy, widthT, widthF, widenBy, widened, sizeT, sizeF, pastBy, pastT, foundBy, foundT}
-use Rattle.measure.specs.Contract.{SitesT, Width, Widened, Widest, Measured, Found}
+use Rattle.measure.specs.Contract.{SitesT, Width, Widened, Widest, MeasuredT, MeasuredF, Ended, Found}
 use Rattle.measure.proofs.Sites.{root-style, kids-of}
 use Rattle.measure.proofs.DryClauses.{widthT-leaf, widthT-block, sizeT-leaf, sizeT-block}
-use Rattle.measure.proofs.Loops.{StackEndT}
+
+-- the value there, or x
+abbrev orElse : Float → OptionF32 → Float
+orElse x None = x
+orElse x (Some y) = y
 
 -- the cursor past one child
 abbrev pub Passed : List ℕ → List Float → ℕ → Frame → Cursor → Cursor → Type 0
@@ -58,7 +64,7 @@ module _ (ws : List ℕ) (xs : List Float) (b : ℕ) (s : Style) (hs : s ≡ sty
   kind-of l ks v h e = ap (λ (z : Style). isLeaf (z .kind)) (sym (style-of l ks h)) ∙ e
 
   -- ---- a probe
-  pub leaf-width : (q : ProbeInput) (r : Float) → isLeaf (s .kind) ≡ true → r ≡ leafWidth (s .measure) (q .available) → Width ws xs b q r
+  leaf-width : (q : ProbeInput) (r : Float) → isLeaf (s .kind) ≡ true → r ≡ leafWidth (s .measure) (q .available) → Width ws xs b q r
   leaf-width q r e hr (node l ks) h = hr ∙ ap (λ (z : Style). leafWidth (z .measure) (q .available)) (style-of l ks h) ∙ sym (widthT-leaf l ks q (kind-of l ks true h e))
 
   width-by : (q : ProbeInput) (known : OptionSize) (o : OptionF32) (l : Site) (ks : Forest Site) → SitesT ws xs b (node l ks) → isLeaf (s .kind) ≡ false → known ≡ probeKnown s q → known .width ≡ o
@@ -69,16 +75,37 @@ module _ (ws : List ℕ) (xs : List Float) (b : ℕ) (s : Style) (hs : s ≡ sty
       widthT-block l ks q (kind-of l ks false h e) ∙ ap (λ (z : Style). widthBy z (probeKnown z q .width) (widthF ks (spaceIn z None (q .available)) zeroF)) st
       ∙ ap (λ (z : OptionF32). widthBy s z (widthF ks (spaceIn s None (q .available)) zeroF)) ko
 
-  pub known-width : (q : ProbeInput) (known : OptionSize) (w : Float) → isLeaf (s .kind) ≡ false → known ≡ probeKnown s q → known .width ≡ Some w → Width ws xs b q w
+  known-width : (q : ProbeInput) (known : OptionSize) (w : Float) → isLeaf (s .kind) ≡ false → known ≡ probeKnown s q → known .width ≡ Some w → Width ws xs b q w
   unfolding widthBy
   known-width q known w e hk ho (node l ks) h = sym (width-by q known (Some w) l ks h e hk ho)
 
-  pub inner-width : (q : ProbeInput) (known : OptionSize) (room : AvailableSpace) (most r : Float) → isLeaf (s .kind) ≡ false → known ≡ probeKnown s q → known .width ≡ None → room ≡ spaceIn s None (q .available)
+  inner-width : (q : ProbeInput) (known : OptionSize) (room : AvailableSpace) (most r : Float) → isLeaf (s .kind) ≡ false → known ≡ probeKnown s q → known .width ≡ None → room ≡ spaceIn s None (q .available)
       → Widest (take (length ws - 4) (drop 4 ws)) xs (b + 1) room most → r ≡ foundWidth s None most → Width ws xs b q r
   unfolding widthBy
   inner-width q known room most r e hk ho hroom hm hr (node l ks) h =
       let m : most ≡ widthF ks (spaceIn s None (q .available)) zeroF = hm ks (kids-of ws xs b l ks h) ∙ ap (λ (z : AvailableSpace). widthF ks z zeroF) hroom in
       hr ∙ ap (foundWidth s None) m ∙ sym (width-by q known None l ks h e hk ho)
+
+  at-once-by : (q : ProbeInput) (v : Bool) → isLeaf (s .kind) ≡ v → widthAtOnce s q ≡ cond v (Some (leafWidth (s .measure) (q .available))) (probeKnown s q .width)
+  unfolding widthAtOnce
+  at-once-by q v e = rw e
+
+  -- a width at once, and none
+  pub width-at-once : (q : ProbeInput) (w : Float) → widthAtOnce s q ≡ Some w → Width ws xs b q w
+  width-at-once q w e = go (isLeaf (s .kind)) refl
+    where
+      go : (v : Bool) → isLeaf (s .kind) ≡ v → Width ws xs b q w
+      go true lf = leaf-width q w lf (ap (orElse w) (sym e ∙ at-once-by q true lf))
+      go false lf = known-width q (probeKnown s q) w lf refl (sym (at-once-by q false lf) ∙ e)
+
+  pub width-inside : (q : ProbeInput) (room : AvailableSpace) (most r : Float) → widthAtOnce s q ≡ None → room ≡ spaceIn s None (q .available) → Widest (take (length ws - 4) (drop 4 ws)) xs (b + 1) room most → r ≡ foundWidth s None most
+      → Width ws xs b q r
+  unfolding isSome
+  width-inside q room most r e hroom hm hr = go (isLeaf (s .kind)) refl
+    where
+      go : (v : Bool) → isLeaf (s .kind) ≡ v → Width ws xs b q r
+      go true lf = absurd (true≢false (ap isSome (sym (at-once-by q true lf) ∙ e)))
+      go false lf = inner-width q (probeKnown s q) room most r lf refl (sym (at-once-by q false lf) ∙ e) hroom hm hr
 
   -- ---- a child of step F
   module _ (a : AvailableSpace) (m : Float) (w : Want) (hw : w ≡ wantOf s a) where
@@ -101,15 +128,14 @@ module _ (ws : List ℕ) (xs : List Float) (b : ℕ) (s : Style) (hs : s ≡ sty
         hr ∙ ap (larger m) oo ∙ sym (widened-of l ks (want.Probe q) h e)
 
   -- ---- the final pass
-  pub leaf-measured : (q : LayoutInput) (found : Float) (r : LayoutOutput) → isLeaf (s .kind) ≡ true → r ≡ leafOutput (s .measure) q → Measured ws xs b q found r
+  pub leaf-measured : (q : LayoutInput) (found : Float) (r : LayoutOutput) → isLeaf (s .kind) ≡ true → r ≡ leafOutput (s .measure) q → MeasuredT ws xs b q found r
   leaf-measured q found r e hr (node l ks) h = hr ∙ ap (λ (z : Style). leafOutput (z .measure) q) (style-of l ks h) ∙ sym (sizeT-leaf l ks q found (kind-of l ks true h e))
 
-  pub block-measured : (q : LayoutInput) (found : Float) (f : Frame) (end : Cursor) (d : Finished) → isLeaf (s .kind) ≡ false → f ≡ frameOf s q found → ((t : Tree Site) → SitesT ws xs b t → StackEndT f t end)
-      → d ≡ finished s q f end → Measured ws xs b q found (d .output)
-  block-measured q found f end d e hf he hd (node l ks) h =
+  pub block-measured : (q : LayoutInput) (found : Float) (f : Frame) (stack : StackOutput) (r : LayoutOutput) → isLeaf (s .kind) ≡ false → f ≡ frameOf s q found → MeasuredF ws xs b f stack
+      → Ended ws xs b q stack r → MeasuredT ws xs b q found r
+  block-measured q found f stack r e hf hm he (node l ks) h =
       let st = style-of l ks h in
-      let ee : end ≡ sizeF ks f (startOf f) = he (node l ks) h in
-      ap (λ (z : Finished). z .output) hd ∙ ap (λ (z : Cursor). finished s q f z .output) ee ∙ ap (λ (z : Frame). finished s q z (sizeF ks z (startOf z)) .output) hf
+      he f (sizeF ks f (startOf f)) (hm l ks h) ∙ ap (λ (z : Style). finished z q f (sizeF ks f (startOf f)) .output) (sym hs) ∙ ap (λ (z : Frame). finished s q z (sizeF ks z (startOf z)) .output) hf
       ∙ ap (λ (z : Style). finished z q (frameOf z q found) (sizeF ks (frameOf z q found) (startOf (frameOf z q found))) .output) st
       ∙ sym (sizeT-block l ks q found (kind-of l ks false h e))
 
@@ -127,7 +153,7 @@ module _ (ws : List ℕ) (xs : List Float) (b : ℕ) (s : Style) (hs : s ≡ sty
     unfolding pastBy
     out-passed r e hr (node l ks) h = hr ∙ sym (past-of l ks Out h e)
 
-    item-passed : (q : LayoutInput) (o : LayoutOutput) (i : BlockItem) (r : Cursor) → flow ≡ In → q ≡ questionTo f s → Measured ws xs b q zeroF o → i ≡ itemOf f s → r ≡ stepped f c i o → Passed ws xs b f c r
+    item-passed : (q : LayoutInput) (o : LayoutOutput) (i : BlockItem) (r : Cursor) → flow ≡ In → q ≡ questionTo f s → MeasuredT ws xs b q zeroF o → i ≡ itemOf f s → r ≡ stepped f c i o → Passed ws xs b f c r
     unfolding pastBy
     item-passed q o i r e hq ho hi hr (node l ks) h =
         let t : Tree Site = node l ks in
@@ -136,7 +162,7 @@ module _ (ws : List ℕ) (xs : List Float) (b : ℕ) (s : Style) (hs : s ≡ sty
         hr ∙ ap (λ (z : BlockItem). stepped f c z o) (hi ∙ ap (itemOf f) st) ∙ ap (stepped f c (itemOf f (rootT t .style))) oo ∙ sym (past-of l ks In h e)
 
     -- the same with what is held of the item
-    pub in-passed : (q : LayoutInput) (o : LayoutOutput) (g : Footing) (r : Cursor) → flow ≡ In → q ≡ questionTo f s → Measured ws xs b q zeroF o → g ≡ footingOf (itemOf f s) → ((z : Sizing) → r ≡ stepped f c (itemWith z g) o) → Passed ws xs b f c r
+    pub in-passed : (q : LayoutInput) (o : LayoutOutput) (g : Footing) (r : Cursor) → flow ≡ In → q ≡ questionTo f s → MeasuredT ws xs b q zeroF o → g ≡ footingOf (itemOf f s) → ((z : Sizing) → r ≡ stepped f c (itemWith z g) o) → Passed ws xs b f c r
     in-passed q o g r e hq ho hg hr =
         let i = itemOf f s in
         item-passed q o i r e hq ho refl (hr (i .sizing) ∙ ap (λ (j : BlockItem). stepped f c j o) (with-footing i g hg))

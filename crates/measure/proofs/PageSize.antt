@@ -35,7 +35,7 @@ use Rattle.steps.specs.declared.Tested.the-variants.{Pass, Refuse}
 use Rattle.tables.proofs.Passing.{sized, then-pass-1, then-pass-2, if-pass, good-table}
 use Rattle.tables.proofs.GoodPage.{GoodPage, good-page}
 use Rattle.measure.specs.Dry.{sizeT, foundT, restT, drySize}
-use Rattle.measure.specs.Contract.{SitesT, IsTree, Measured, Found, Whole, Rest, KnownWidth, SizeOf}
+use Rattle.measure.specs.Contract.{SitesT, IsTree, MeasuredT, Found, Whole, Rest, KnownWidth, SizeOf}
 use Rattle.measure.proofs.OneNode.{root-of}
 use Rattle.measure.proofs.Afresh.{size-dry}
 
@@ -50,7 +50,7 @@ module _ (ws : List ℕ) (xs : List Float) (q : LayoutInput) (a : RequestedAxis)
     unfolding stepG
     width-asked r e ea hr t s = rw (e, ea) hr
 
-    pub whole-asked : (o : LayoutOutput) → height ≡ None → a ≡ Both → Measured ws xs 0 q found o → Whole ws xs q a found width pb height (o .size)
+    pub whole-asked : (o : LayoutOutput) → height ≡ None → a ≡ Both → MeasuredT ws xs 0 q found o → Whole ws xs q a found width pb height (o .size)
     unfolding stepG
     whole-asked o e ea ho t s = rw (e, ea) (ap (λ (z : LayoutOutput). z .size) (ho t s))
 

@@ -8,16 +8,22 @@ use Rattle.geometry.specs.Geometry.{zeroF}
 use Rattle.geometry.specs.declared.Size.{Size}
 use Rattle.util.specs.declared.OptionF32.{OptionF32}
 use Rattle.length.specs.declared.AvailableSpace.{AvailableSpace}
-use Rattle.style.specs.Style.{planeOf}
-use Rattle.tree.specs.Tree.{Tree, Forest, countT, countF, depthT, depthF, flatT, flatF}
+use Rattle.style.specs.Style.{planeOf, styleAt}
+use Rattle.tree.specs.Tree.{Tree, Forest, node, countT, countF, depthT, depthF, flatT, flatF}
 use Rattle.tree.specs.Table.{entryOf, from}
 use Rattle.steps.specs.Page.{Site, siteAt}
+use Rattle.steps.specs.Stack.{startOf}
+use Rattle.steps.specs.Through.{finished}
 use Rattle.steps.specs.SizeQuestion.{stepG, widthKnown, sizeOf}
 use Rattle.steps.specs.declared.ProbeInput.{ProbeInput}
 use Rattle.steps.specs.declared.LayoutInput.{LayoutInput}
 use Rattle.steps.specs.declared.LayoutOutput.{LayoutOutput}
 use Rattle.steps.specs.declared.RequestedAxis.{RequestedAxis}
-use Rattle.measure.specs.Dry.{widthT, widthF, widened, sizeT, foundT, restT}
+use Rattle.steps.specs.declared.Frame.{Frame}
+use Rattle.steps.specs.declared.Cursor.{Cursor}
+use Rattle.heights.specs.Leaves.{stackLeaves}
+use Rattle.heights.specs.declared.StackOutput.{StackOutput}
+use Rattle.measure.specs.Dry.{widthT, widthF, widened, sizeT, sizeF, foundT, restT}
 
 -- these words are the tree's, whose first node has the number b
 pub record SitesT (ws : List ℕ) (xs : List Float) (b : ℕ) (t : Tree Site) : Type 0 where
@@ -52,8 +58,16 @@ Widened ws xs b a m r = (t : Tree Site) → SitesT ws xs b t → r ≡ widened t
 abbrev pub Widest : List ℕ → List Float → ℕ → AvailableSpace → Float → Type 0
 Widest ws xs b a r = (ts : Forest Site) → SitesF ws xs b ts → r ≡ widthF ts a zeroF
 
-abbrev pub Measured : List ℕ → List Float → ℕ → LayoutInput → Float → LayoutOutput → Type 0
-Measured ws xs b q found r = (t : Tree Site) → SitesT ws xs b t → r ≡ sizeT t q found
+abbrev pub MeasuredT : List ℕ → List Float → ℕ → LayoutInput → Float → LayoutOutput → Type 0
+MeasuredT ws xs b q found r = (t : Tree Site) → SitesT ws xs b t → r ≡ sizeT t q found
+
+-- the stack of a container: what it leaves of frame and cursor
+abbrev pub MeasuredF : List ℕ → List Float → ℕ → Frame → StackOutput → Type 0
+MeasuredF ws xs b f r = (l : Site) (ks : Forest Site) → SitesT ws xs b (node l ks) → r ≡ stackLeaves f (sizeF ks f (startOf f))
+
+-- L to N, for whatever frame and cursor the stack's output is of
+abbrev pub Ended : List ℕ → List Float → ℕ → LayoutInput → StackOutput → LayoutOutput → Type 0
+Ended ws xs b q stack r = (f : Frame) (c : Cursor) → stack ≡ stackLeaves f c → r ≡ finished (styleAt ws 0 xs b) q f c .output
 
 -- the page's own steps
 abbrev pub Found : List ℕ → List Float → LayoutInput → OptionF32 → Float → Type 0

@@ -1,13 +1,18 @@
 // The size question: what a page would measure. It is lent no rows, keeps nothing and writes nothing.
 ghost use mathlib.Core.Path.{_≡_};
+ghost use Prim.Native.Nat.{_<_, _≤_};
+ghost use lib.ListN.{length};
+ghost use Rattle.style.specs.Style.{planeOf};
 ghost use Rattle.steps.specs.SizeQuestion.{axes};
 ghost use Rattle.steps.specs.Question.{rootInput};
 ghost use Rattle.steps.specs.Results.{sizeReply, sizeResult};
 ghost use Rattle.measure.specs.Public.{SizeReplied};
-ghost use Rattle.measure.specs.Contract.{IsTree, IsForest, Width, Widened, Widest, Measured, Found, Whole, Rest, KnownWidth, SizeOf};
+ghost use Rattle.measure.specs.Contract.{IsTree, IsForest, Width, Widened, Widest, MeasuredT, MeasuredF, Ended, Found, Whole, Rest, KnownWidth, SizeOf};
 use geometry::Size;
+use heights::StackOutput;
 use length::AvailableSpace;
 use steps::Answer;
+use steps::Frame;
 use steps::LayoutInput;
 use steps::LayoutOutput;
 use steps::ProbeInput;
@@ -21,23 +26,22 @@ use style::Flow;
 use tree::NodeId;
 use util::OptionF32;
 
+// The levels that are left below the root.
+const BELOW_ROOT: usize = tree::MAX_DEPTH - 1;
+
 // A probe of one tree: its width alone.
 fn width_of(words: &[u32], numbers: &[f32], base: usize, depth: usize, q: ProbeInput) -> f32
     requires { ⌜ IsTree (now words) (now numbers) base depth ⌝ }
     ensures { λ r. ⌜ Width (now (words .entry)) (now (numbers .entry)) base q r ⌝ }
 {
-    let a = q.available;
-    if reader::is_leaf(words) {
-        return widths::leaf_width(style::measure_at(words, 0, numbers, base), a);
-    }
-    let r = reader::reader_at(words, numbers, base);
-    let known = widths::probe_known(r, numbers, q);
-    let width = known.width;
+    let width = widths::width_at_once(words, numbers, base, q);
     match width {
         OptionF32::Some(w) => w,
         OptionF32::None => {
+            let r = reader::reader_at(words, numbers, base);
+            let a = q.available;
             let room = widths::available_inside(r, numbers, OptionF32::None, a);
-            let most = widest(&words[4..], numbers, base + 1, depth - 1, room);
+            let most = widest(&words[style::WORDS..], numbers, base + 1, depth - 1, room);
             widths::width_from(r, numbers, OptionF32::None, most)
         }
     }
@@ -75,58 +79,87 @@ fn widest(words: &[u32], numbers: &[f32], base: usize, depth: usize, a: Availabl
 {
     let mut most = 0.0;
     let mut i = 0usize;
-    while 4 * i < words.len() {
-        let e = i + style::word(words, i, 0) as usize;
-        let i4 = 4 * i;
-        let e4 = 4 * e;
+    while style::WORDS * i < words.len() {
+        let e = i + style::word(words, i, style::SIZE) as usize;
+        let i4 = style::WORDS * i;
+        let e4 = style::WORDS * e;
         most = widened(&words[i4..e4], numbers, base + i, depth, a, most);
         i = e;
     }
     most
 }
 
-// One container of the final pass: its answer alone. Frame and cursor stand here alone, as in crate compute.
+// Steps L to N of a container: its answer alone.
+fn finish(
+    words: &[u32],
+    numbers: &[f32],
+    base: usize,
+    input: LayoutInput,
+    stack: StackOutput,
+) -> LayoutOutput
+    requires { ⌜ (4 ≤ length (now words)) × (base < planeOf (now numbers)) ⌝ }
+    ensures { λ r. ⌜ Ended (now (words .entry)) (now (numbers .entry)) base input stack r ⌝ }
+{
+    let finished = heights::finish_at(words, numbers, base, input, stack);
+    finished.output
+}
+
+// One container of the final pass: its frame, its stack, and the answer alone.
 fn measured(
     words: &[u32],
     numbers: &[f32],
     base: usize,
     depth: usize,
-    q: LayoutInput,
+    input: LayoutInput,
     found: f32,
 ) -> LayoutOutput
     requires { ⌜ IsTree (now words) (now numbers) base depth ⌝ }
-    ensures { λ r. ⌜ Measured (now (words .entry)) (now (numbers .entry)) base q found r ⌝ }
+    ensures { λ r. ⌜ MeasuredT (now (words .entry)) (now (numbers .entry)) base input found r ⌝ }
 {
     if reader::is_leaf(words) {
-        return heights::leaf_at(words, numbers, base, q);
+        return heights::leaf_at(words, numbers, base, input);
     }
-    let f = frames::frame_at(words, numbers, base, q, found);
-    let mut c = stacking::start_of(f);
-    let mut i = 1usize;
-    while 4 * i < words.len() {
-        let e = i + style::word_in(words, i, 0) as usize;
-        let i4 = 4 * i;
-        let e4 = 4 * e;
-        let flow = reader::flow(&words[i4..e4]);
+    let frame = frames::frame_at(words, numbers, base, input, found);
+    let stack = measure_in_flow_children(words, numbers, base, depth, frame);
+    finish(words, numbers, base, input, stack)
+}
+
+// The stack: steps J and K. It begins behind its container's own words.
+fn measure_in_flow_children(
+    words: &[u32],
+    numbers: &[f32],
+    base: usize,
+    depth: usize,
+    frame: Frame,
+) -> StackOutput
+    requires { ⌜ IsTree (now words) (now numbers) base depth ⌝ }
+    ensures { λ r. ⌜ MeasuredF (now (words .entry)) (now (numbers .entry)) base frame r ⌝ }
+{
+    let mut cursor = stacking::start_of(frame);
+    let mut child = 1usize;
+    while style::WORDS * child < words.len() {
+        let end = child + style::word_in(words, child, style::SIZE) as usize;
+        let w0 = style::WORDS * child;
+        let w1 = style::WORDS * end;
+        let flow = reader::flow(&words[w0..w1]);
         match flow {
             Flow::Gone => {
-                c = stacking::past_hidden(c);
+                cursor = stacking::past_hidden(cursor);
             }
             Flow::Out => {
-                c = stacking::past_aside(c);
+                cursor = stacking::past_aside(cursor);
             }
             Flow::In => {
-                let plan = stacking::item::plan_at(&words[i4..e4], numbers, base + i, f);
+                let plan = stacking::item::plan_at(&words[w0..w1], numbers, base + child, frame);
                 let ask = plan.input;
-                let g = plan.footing;
-                let o = measured(&words[i4..e4], numbers, base + i, depth - 1, ask, 0.0);
-                c = stacking::stepped_past(f, c, g, o);
+                let footing = plan.footing;
+                let answer = measured(&words[w0..w1], numbers, base + child, depth - 1, ask, 0.0);
+                cursor = stacking::stepped_past(frame, cursor, footing, answer);
             }
         }
-        i = e;
+        child = end;
     }
-    let d = heights::finish_at(words, numbers, base, q, f, c);
-    d.output
+    heights::stack_output(frame, cursor)
 }
 
 fn axes(width: f32, height: f32) -> Size
@@ -150,7 +183,7 @@ fn found_width(words: &[u32], numbers: &[f32], q: LayoutInput, width: OptionF32)
             let parent = q.parent;
             let a = q.available;
             let room = widths::available_inside(r, numbers, parent, a);
-            let most = widest(&words[4..], numbers, 1, 31, room);
+            let most = widest(&words[style::WORDS..], numbers, 1, BELOW_ROOT, room);
             widths::width_from(r, numbers, parent, most)
         }
     }
@@ -176,7 +209,7 @@ fn size_after_width(
     match axis {
         RequestedAxis::Horizontal => axes(width, 0.0),
         RequestedAxis::Both => {
-            let o = measured(words, numbers, 0, 32, q, found);
+            let o = measured(words, numbers, 0, tree::MAX_DEPTH, q, found);
             o.size
         }
     }
@@ -190,7 +223,7 @@ fn size_below(words: &[u32], numbers: &[f32], q: LayoutInput, axis: RequestedAxi
     let r = reader::reader_at(words, numbers, 0);
     let parent = q.parent;
     let asked = q.known;
-    let z = sizing::sizing_of(r, numbers, parent);
+    let z = sizing::sizing_without_height_basis(r, numbers, parent);
     let known = sizing::known_dimensions(reader::ratio(r, numbers), z, asked);
     let both = z.both;
     let width = known.width;
@@ -230,8 +263,8 @@ fn size_of(words: &[u32], numbers: &[f32], q: LayoutInput, axis: RequestedAxis) 
     let r = reader::reader_at(words, numbers, 0);
     let parent = q.parent;
     let asked = q.known;
-    let z = sizing::sizing_of(r, numbers, parent);
-    let known = sizing::known_by_style(z, asked);
+    let z = sizing::sizing_without_height_basis(r, numbers, parent);
+    let known = sizing::styled_based_known_dimensions(z, asked);
     let width = known.width;
     let height = known.height;
     match width {

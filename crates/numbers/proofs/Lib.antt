@@ -1,3 +1,1 @@
-pub mod FieldSplit
-pub mod UnitWords
-pub mod FieldRuns
+pub mod Limits

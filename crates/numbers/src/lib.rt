@@ -1,21 +1,21 @@
 // Test 4: the numbers of a node, and those of the question.
 ghost use mathlib.Core.Path.{_≡_};
-ghost use mathlib.Core.Bool.{true, false};
-ghost use Prim.Native.Nat.{_-_, _^_, _≤_, _<_};
-ghost use Rattle.style.specs.Codes.{unitOf};
-ghost use Rattle.style.specs.Style.{wordAt, planeOf, numberPlace, numberAt};
+ghost use mathlib.Core.Bool.{true, false, cond};
+ghost use Prim.Native.Nat.{_-_, _≤_, _<_};
+ghost use lib.Ieee.{neg};
+ghost use Rattle.geometry.specs.Geometry.{zeroF};
+ghost use Rattle.style.specs.Style.{wordAt, planeOf, numberAt};
 ghost use Rattle.steps.specs.Scan.{scan, lowest, some};
 ghost use Rattle.steps.specs.Page.{nodesIn};
-ghost use Rattle.steps.specs.Noes.{badField, badPixels, badRatio, badNumbers, badOption, badQuestion, no4};
-ghost use Rattle.numbers.specs.Runs.{past, pastPixels, farFraction, pastOne};
+ghost use Rattle.steps.specs.Noes.{signed, badField, badPixels, badRatio, badNumbers, badOption, badQuestion, no4};
+ghost use Rattle.numbers.specs.Fields.{badFieldAt};
 use limits::in_range;
 use steps::Answer;
 use steps::Found;
 use steps::LayoutInput;
 use steps::Tested;
-use style::next_place;
 use style::number_in;
-use style::number_place;
+use style::unit;
 use style::word_in;
 use tree::NodeId;
 use util::OptionF32;
@@ -37,122 +37,108 @@ fn bad_ratio(x: f32) -> bool
     !in_range(x, 0.015625, 64.0)
 }
 
-// Number f of node i, which stands at this place.
-fn number_there(numbers: &[f32], n: usize, i: usize, f: usize, at: usize) -> f32
-    requires { ⌜ (n ≡ planeOf (now numbers)) × ((i < n) × ((f < 28) × (at ≡ numberPlace n i f))) ⌝ }
-    ensures { λ r. ⌜ r ≡ numberAt (now (numbers .entry)) i f ⌝ }
+// 4: margins and insets may be negative.
+fn signed(f: usize) -> bool
+    ensures { λ r. ⌜ r ≡ signed f ⌝ }
 {
-    numbers[at]
+    if f < style::MARGIN {
+        return false;
+    }
+    if f < style::PADDING {
+        return true;
+    }
+    if f < style::INSET {
+        return false;
+    }
+    f < style::LENGTHS
 }
 
-// 4: one of node i's numbers from .. to is below the least or past 65,536.
-fn some_past(numbers: &[f32], n: usize, i: usize, from: usize, to: usize, least: f32) -> bool
-    requires { ⌜ (n ≡ planeOf (now numbers)) × ((i < n) × ((from ≤ to) × (to ≤ 22))) ⌝ }
-    ensures { λ r. ⌜ r ≡ scan (past least (now (numbers .entry)) i) (λ _. true) false from (to - from) ⌝ }
+// 4: the least that goes with the most of field f.
+fn least_of(f: usize, most: f32) -> f32
+    ensures { λ r. ⌜ r ≡ cond (signed f) (neg most) zeroF ⌝ }
 {
-    let mut at = number_place(n, i, from);
+    if signed(f) { -most } else { 0.0 }
+}
+
+// 4: field f. A fraction's limits lie within those of pixels, and so do most numbers: the unit is asked of the others.
+fn bad_field(f: usize, unit: u32, x: f32) -> bool
+    ensures { λ r. ⌜ r ≡ badField f unit x ⌝ }
+{
+    if in_range(x, least_of(f, 1.0), 1.0) {
+        return false;
+    }
+    if unit == 2 {
+        return true;
+    }
+    !in_range(x, least_of(f, 65536.0), 65536.0)
+}
+
+// 4: one of node i's fields from .. to.
+fn some_bad_field(
+    u: u32,
+    v: u32,
+    numbers: &[f32],
+    n: usize,
+    i: usize,
+    from: usize,
+    to: usize,
+) -> bool
+    requires { ⌜ ((n ≡ planeOf (now numbers)) × (i < n)) × ((from ≤ to) × (to ≤ 22)) ⌝ }
+    ensures { λ r. ⌜ r ≡ scan (badFieldAt u v (now (numbers .entry)) i) (λ _. true) false from (to - from) ⌝ }
+{
     let mut f = from;
     while f < to {
-        if !in_range(number_there(numbers, n, i, f, at), least, 65536.0) {
+        if bad_field(f, unit(u, v, f as u32), number_in(numbers, n, i, f)) {
             return true;
         }
-        at = next_place(n, at);
         f += 1;
     }
     false
 }
 
-// 4: one of node i's 22 lengths is past the limits of pixels, which every length has.
-fn some_bad_pixels(numbers: &[f32], n: usize, i: usize) -> bool
-    requires { ⌜ (n ≡ planeOf (now numbers)) × (i < n) ⌝ }
-    ensures { λ r. ⌜ r ≡ pastPixels (now (numbers .entry)) i ⌝ }
+// 4: one of its 22 lengths: those whose units stand in the first word, and those of the second.
+fn some_bad_length(words: &[u32], numbers: &[f32], n: usize, i: usize) -> bool
+    requires { ⌜ ((n ≡ planeOf (now numbers)) × (i < n)) × (i < nodesIn (now words)) ⌝ }
+    ensures { λ r. ⌜ r ≡ some (badFieldAt (wordAt (now (words .entry)) i 2) (wordAt (now (words .entry)) i 3) (now (numbers .entry)) i) 22 ⌝ }
 {
-    if some_past(numbers, n, i, 0, 6, 0.0) {
+    let u = word_in(words, i, style::UNITS);
+    let v = word_in(words, i, style::MORE_UNITS);
+    if some_bad_field(u, v, numbers, n, i, 0, style::BORDER) {
         return true;
     }
-    if some_past(numbers, n, i, 6, 10, -65536.0) {
-        return true;
-    }
-    if some_past(numbers, n, i, 10, 18, 0.0) {
-        return true;
-    }
-    some_past(numbers, n, i, 18, 22, -65536.0)
-}
-
-// 4: field f of node i, of this unit, is a fraction past 1. Its sign is the pixels' affair.
-fn past_one(unit: u32, numbers: &[f32], n: usize, i: usize, f: usize) -> bool
-    requires { ⌜ (n ≡ planeOf (now numbers)) × (f < 28) ⌝ }
-    ensures { λ r. ⌜ r ≡ farFraction unit (numberAt (now (numbers .entry)) i f) ⌝ }
-{
-    if unit == 2 {
-        return !in_range(number_in(numbers, n, i, f), -1.0, 1.0);
-    }
-    false
-}
-
-// 4: one of node i's 14 fields from low on, whose units these are, is a fraction past 1. The loop ends behind the last
-// fraction, so that it has no turn where there is none.
-fn some_past_one(units: u32, numbers: &[f32], n: usize, i: usize, low: usize) -> bool
-    requires { ⌜ (n ≡ planeOf (now numbers)) × ((units < 2 ^ 28) × (low ≤ 14)) ⌝ }
-    ensures { λ r. ⌜ r ≡ scan (pastOne units low (now (numbers .entry)) i) (λ _. true) false low 14 ⌝ }
-{
-    let mut rest = units;
-    let mut f = low;
-    while ((rest >> 1) & 0x5555_5555) != 0 {
-        if past_one(rest & 3, numbers, n, i, f) {
-            return true;
-        }
-        rest = rest >> 2;
-        f += 1;
-    }
-    false
-}
-
-// 4: one of node i's 22 lengths: past the limits of pixels, or a fraction past its own. Unused bits of the unit words
-// are test 3's affair.
-fn some_bad_field(words: &[u32], numbers: &[f32], n: usize, i: usize) -> bool
-    requires { ⌜ (n ≡ planeOf (now numbers)) × ((i < n) × (i < nodesIn (now words))) ⌝ }
-    ensures { λ r. ⌜ r ≡ some (λ f. badField f (unitOf (wordAt (now (words .entry)) i 2) (wordAt (now (words .entry)) i 3) f) (numberAt (now (numbers .entry)) i f)) 22 ⌝ }
-{
-    if some_bad_pixels(numbers, n, i) {
-        return true;
-    }
-    if some_past_one(word_in(words, i, 2) & 0x0fff_ffff, numbers, n, i, 0) {
-        return true;
-    }
-    some_past_one(word_in(words, i, 3) & 0xffff, numbers, n, i, 14)
+    some_bad_field(u, v, numbers, n, i, style::BORDER, style::LENGTHS)
 }
 
 // 4, of node i.
 fn bad_numbers(words: &[u32], numbers: &[f32], n: usize, i: usize) -> bool
-    requires { ⌜ (n ≡ planeOf (now numbers)) × ((i < n) × (i < nodesIn (now words))) ⌝ }
+    requires { ⌜ ((n ≡ planeOf (now numbers)) × (i < n)) × (i < nodesIn (now words)) ⌝ }
     ensures { λ r. ⌜ r ≡ badNumbers (now (words .entry)) (now (numbers .entry)) i ⌝ }
 {
-    if some_bad_field(words, numbers, n, i) {
+    if some_bad_length(words, numbers, n, i) {
         return true;
     }
-    if bad_ratio(number_in(numbers, n, i, 22)) {
+    if bad_ratio(number_in(numbers, n, i, style::RATIO)) {
         return true;
     }
-    if bad_pixels(number_in(numbers, n, i, 23)) {
+    if bad_pixels(number_in(numbers, n, i, style::SCROLLBAR)) {
         return true;
     }
-    let least = number_in(numbers, n, i, 24);
+    let least = number_in(numbers, n, i, style::LEAST);
     if bad_pixels(least) {
         return true;
     }
-    let most = number_in(numbers, n, i, 25);
+    let most = number_in(numbers, n, i, style::MOST);
     if bad_pixels(most) {
         return true;
     }
-    let height = number_in(numbers, n, i, 26);
+    let height = number_in(numbers, n, i, style::HEIGHT);
     if bad_pixels(height) {
         return true;
     }
     if most < least {
         return true;
     }
-    !in_range(number_in(numbers, n, i, 27), 0.0, height)
+    !in_range(number_in(numbers, n, i, style::FIRST_BASELINE), 0.0, height)
 }
 
 // 4: the lowest node at fault. It counts nodes by the planes: then no read asks whether its node is in them.
@@ -160,7 +146,7 @@ fn first_bad_numbers(words: &[u32], numbers: &[f32]) -> Found
     requires { ⌜ (nodesIn (now words) ≤ 1024) × (nodesIn (now words) ≡ planeOf (now numbers)) ⌝ }
     ensures { λ r. ⌜ r ≡ lowest (badNumbers (now (words .entry)) (now (numbers .entry))) (nodesIn (now (words .entry))) ⌝ }
 {
-    let n = numbers.len() / 28;
+    let n = numbers.len() / style::NUMBERS;
     let mut i = 0;
     while i < n {
         if bad_numbers(words, numbers, n, i) {
@@ -207,7 +193,7 @@ fn question_place(words: &[u32]) -> u32
     requires { ⌜ nodesIn (now words) ≤ 1024 ⌝ }
     ensures { λ r. ⌜ r ≡ nodesIn (now (words .entry)) ⌝ }
 {
-    (words.len() / 4) as u32
+    (words.len() / style::WORDS) as u32
 }
 
 // 4: the nodes first, then the question.

@@ -23,7 +23,7 @@ use Rattle.layout.specs.Public.{Replied}
 use Rattle.asked.specs.Halves.{Halves}
 use Rattle.face.specs.Answered.{Answered}
 use Rattle.face.specs.Answered as face
-use Rattle.outcomes.specs.Numbers.{paper-settles}
+use Rattle.answers.specs.Settled.{paper-settles}
 use Rattle.outcomes.specs.Left.{LeftBy}
 use Rattle.outcomes.specs.Layout.{LayoutGiven, layout-answers, layout-leaves}
 use Rattle.outcomes.specs.Relayout.{RelayoutGiven, relayout-answers, relayout-leaves}

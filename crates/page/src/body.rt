@@ -17,10 +17,10 @@ fn put_node(w: NodeWords, n: usize, count: usize, words: &mut [u32], numbers: &[
     if n <= count {
         return n + 1;
     }
-    words[4 * count] = w.size;
-    words[4 * count + 1] = w.style;
-    words[4 * count + 2] = w.low;
-    words[4 * count + 3] = w.high;
+    words[style::WORDS * count] = w.size;
+    words[style::WORDS * count + style::STYLE] = w.style;
+    words[style::WORDS * count + style::UNITS] = w.low;
+    words[style::WORDS * count + style::MORE_UNITS] = w.high;
     count + 1
 }
 

@@ -1,8 +1,10 @@
 -- Two panels over one node table: what one event of one of them answers and leaves, and events one after the other.
+use mathlib.Core.Path.{_≡_}
 use mathlib.Core.Bool.{Bool, true, false, cond, _||_}
 use mathlib.Core.List.{List, [], _∷_}
 use Prim.Native.Nat.{ℕ}
 use lib.Ieee.{Float}
+use Rattle.steps.specs.Noes.{paper}
 use Rattle.steps.specs.declared.Answer.{Answer}
 use Rattle.steps.specs.declared.Question.{Question}
 use Rattle.sheet.specs.Sheet.{Sheet, sheet, numberEdit, wordEdit}
@@ -37,6 +39,11 @@ listed s = (s .list, s .count)
 -- what a call leaves in lent memory
 abbrev pub panelLeft : PanelTurn → List ℕ → List Float → List Float → List ℕ → List ℕ → List Float → List ℕ → List ℕ → Both
 panelLeft t ws xs rs ms cw cx l o = record { own = record { answer = t .answer; after = day (t .state) ws xs rs ms cw cx l }; other = sheet ws xs o (t .other) }
+
+-- what the call promises: the answer, by its number and place too, and all that it leaves are the definition's
+pub record PanelReplied (want : Both) (t : PanelTurn) (ws : List ℕ) (xs rs : List Float) (ms cw : List ℕ) (cx : List Float) (l o : List ℕ) : Type 0 where
+  pub left-is : panelLeft t ws xs rs ms cw cx l o ≡ want
+  pub paper-is : paper (t .answer) ≡ paper (want .own .answer)
 
 -- ---- two panels
 

@@ -2,7 +2,7 @@
 ghost use mathlib.Core.Path.{_≡_};
 ghost use Rattle.sheet.specs.Sheet.{sheet, numberEdit, wordEdit};
 ghost use Rattle.day.specs.Day.{day};
-ghost use Rattle.panels.specs.Panels.{listed, seen, panelLeft, panelResult};
+ghost use Rattle.panels.specs.Panels.{listed, seen, panelResult, PanelReplied};
 use day::Event;
 use day::State;
 use sheet::NodeNumber;
@@ -26,8 +26,9 @@ fn note_number(
 ) -> usize
     ensures { λ r. ⌜ (now (list .exit), r) ≡ listed (numberEdit x (sheet (now (words .entry)) (now (numbers .entry)) (now (list .entry)) count)) ⌝ }
 {
-    let n = words.len() / 4;
-    let node = x.node as usize;
+    let n = words.len() / style::WORDS;
+    let id = x.node;
+    let node = id.0 as usize;
     let field = x.field as usize;
     if n <= node {
         return count;
@@ -35,15 +36,16 @@ fn note_number(
     if numbers.len() / n <= field {
         return count;
     }
-    sheet::note(x.node, count, list)
+    sheet::note(id, count, list)
 }
 
 // The node of an edit of a word, if there is such a word.
 fn note_word(x: NodeWord, count: usize, words: &[u32], numbers: &[f32], list: &mut [u32]) -> usize
     ensures { λ r. ⌜ (now (list .exit), r) ≡ listed (wordEdit x (sheet (now (words .entry)) (now (numbers .entry)) (now (list .entry)) count)) ⌝ }
 {
-    let n = words.len() / 4;
-    let node = x.node as usize;
+    let n = words.len() / style::WORDS;
+    let id = x.node;
+    let node = id.0 as usize;
     let word = x.word as usize;
     if n <= node {
         return count;
@@ -54,7 +56,7 @@ fn note_word(x: NodeWord, count: usize, words: &[u32], numbers: &[f32], list: &m
     if 3 < word {
         return count;
     }
-    sheet::note(x.node, count, list)
+    sheet::note(id, count, list)
 }
 
 // What the other panel sees of an event: the node of an edit, in its list.
@@ -84,7 +86,7 @@ pub fn step(
     list: &mut [u32],
     others: &mut [u32],
 ) -> PanelTurn
-    ensures { λ r. ⌜ panelLeft r (now (words .exit)) (now (numbers .exit)) (now (rows .exit)) (now (marks .exit)) (now (pairs .exit)) (now (triples .exit)) (now (list .exit)) (now (others .exit)) ≡ panelResult e (day s (now (words .entry)) (now (numbers .entry)) (now (rows .entry)) (now (marks .entry)) (now (pairs .entry)) (now (triples .entry)) (now (list .entry))) (sheet (now (words .entry)) (now (numbers .entry)) (now (others .entry)) other) ⌝ }
+    ensures { λ r. ⌜ PanelReplied (panelResult e (day s (now (words .entry)) (now (numbers .entry)) (now (rows .entry)) (now (marks .entry)) (now (pairs .entry)) (now (triples .entry)) (now (list .entry))) (sheet (now (words .entry)) (now (numbers .entry)) (now (others .entry)) other)) r (now (words .exit)) (now (numbers .exit)) (now (rows .exit)) (now (marks .exit)) (now (pairs .exit)) (now (triples .exit)) (now (list .exit)) (now (others .exit)) ⌝ }
 {
     let count = note_other(e, other, words, numbers, others);
     let t = day::step(e, s, words, numbers, rows, marks, pairs, triples, list);

@@ -96,7 +96,7 @@ number-nodes x s false e = rw e
 
 word-nodes : (x : NodeWord) (s : Sheet) (b : Bool) → hasWord x s ≡ b → nodesIn (wordEdit x s .words) ≡ nodesIn (s .words)
 unfolding wordEdit editOf
-word-nodes x s true e = rw e (ap (λ (n : ℕ). n / 4) (length-set (s .words) (x .node * 4 + x .word) (x .bits)))
+word-nodes x s true e = rw e (ap (λ (n : ℕ). n / 4) (length-set (s .words) (x .node .0 * 4 + x .word) (x .bits)))
 word-nodes x s false e = rw e
 
 -- ---- events

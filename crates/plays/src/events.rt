@@ -9,6 +9,7 @@ use reading::word_at;
 use sheet::NodeNumber;
 use sheet::NodeWord;
 use steps::Question;
+use tree::NodeId;
 use util::OptionF32;
 use util::OptionSize;
 
@@ -66,14 +67,14 @@ fn ask(k: u32, kind: u32, bits: u32) -> Ask {
 fn event(kind: u32, a: u32, b: u32, c: u32) -> Event {
     if kind == 0 {
         return Event::Number(NodeNumber {
-            node: a,
+            node: NodeId(a),
             field: b,
             value: text::float_of(c),
         });
     }
     if kind == 1 {
         return Event::Word(NodeWord {
-            node: a,
+            node: NodeId(a),
             word: b,
             bits: c,
         });

@@ -14,6 +14,8 @@ use lent::word_at;
 use steps::Answer;
 use steps::number_of;
 use steps::place_of;
+use tree::NodeId;
+use tree::Order;
 
 // One byte, if there is room.
 pub fn put(out: &mut [u8], at: usize, b: u8) -> usize
@@ -91,12 +93,21 @@ pub fn put_number(out: &mut [u8], at: usize, x: f32) -> usize
 }
 
 // Node, order, x, y, w, h.
-fn put_box(out: &mut [u8], at: usize, i: usize, order: u32, x: f32, y: f32, w: f32, h: f32) -> usize
-    ensures { λ r. ⌜ pen (now (out .exit)) r ≡ putAll (boxText i order x y w h) (pen (now (out .entry)) at) ⌝ }
+fn put_box(
+    out: &mut [u8],
+    at: usize,
+    node: NodeId,
+    order: Order,
+    x: f32,
+    y: f32,
+    w: f32,
+    h: f32,
+) -> usize
+    ensures { λ r. ⌜ pen (now (out .exit)) r ≡ putAll (boxText (node .0) (order .0) x y w h) (pen (now (out .entry)) at) ⌝ }
 {
     let a = put_text(out, at, b"box=");
-    let b = put_decimal(out, a, i as u64, 20);
-    let c = put_count(out, b, order as u64);
+    let b = put_decimal(out, a, node.0 as u64, 20);
+    let c = put_count(out, b, order.0 as u64);
     let d = put_number(out, c, x);
     let e = put_number(out, d, y);
     let f = put_number(out, e, w);
@@ -109,14 +120,15 @@ fn put_node(out: &mut [u8], at: usize, i: usize, rows: &[f32], marks: &[u32]) ->
     requires { ⌜ i < 4294967296 ⌝ }
     ensures { λ r. ⌜ pen (now (out .exit)) r ≡ putAll (boxAt (now (rows .entry)) (now (marks .entry)) i) (pen (now (out .entry)) at) ⌝ }
 {
-    let bits = word_at(marks, 2 * i + 1);
+    let bits = word_at(marks, style::MARKS * i + 1);
     if style::flag(bits, 0) {
-        let order = word_at(marks, 2 * i);
-        let x = number_at(rows, 16 * i);
-        let y = number_at(rows, 16 * i + 1);
-        let w = number_at(rows, 16 * i + 2);
-        let h = number_at(rows, 16 * i + 3);
-        return put_box(out, at, i, order, x, y, w, h);
+        let node = NodeId(i as u32);
+        let order = Order(word_at(marks, style::MARKS * i));
+        let x = number_at(rows, style::ROW * i);
+        let y = number_at(rows, style::ROW * i + 1);
+        let w = number_at(rows, style::ROW * i + 2);
+        let h = number_at(rows, style::ROW * i + 3);
+        return put_box(out, at, node, order, x, y, w, h);
     }
     at
 }
@@ -139,17 +151,17 @@ fn put_boxes(out: &mut [u8], at: usize, n: usize, rows: &[f32], marks: &[u32]) -
 fn put_record(
     out: &mut [u8],
     at: usize,
-    node: u32,
-    order: u32,
+    node: NodeId,
+    order: Order,
     start: f32,
     end: f32,
     line: f32,
 ) -> usize
-    ensures { λ r. ⌜ pen (now (out .exit)) r ≡ putAll (candidateText node order start end line) (pen (now (out .entry)) at) ⌝ }
+    ensures { λ r. ⌜ pen (now (out .exit)) r ≡ putAll (candidateText (node .0) (order .0) start end line) (pen (now (out .entry)) at) ⌝ }
 {
     let a = put_text(out, at, b"cand=");
-    let b = put_decimal(out, a, node as u64, 20);
-    let c = put_count(out, b, order as u64);
+    let b = put_decimal(out, a, node.0 as u64, 20);
+    let c = put_count(out, b, order.0 as u64);
     let d = put_number(out, c, start);
     let e = put_number(out, d, end);
     let f = put_number(out, e, line);
@@ -161,8 +173,8 @@ fn put_candidate(out: &mut [u8], at: usize, i: usize, pairs: &[u32], triples: &[
     requires { ⌜ i < 4294967296 ⌝ }
     ensures { λ r. ⌜ pen (now (out .exit)) r ≡ putAll (candidateLine (candidateAt (now (pairs .entry)) (now (triples .entry)) i)) (pen (now (out .entry)) at) ⌝ }
 {
-    let node = word_at(pairs, 2 * i);
-    let order = word_at(pairs, 2 * i + 1);
+    let node = NodeId(word_at(pairs, 2 * i));
+    let order = Order(word_at(pairs, 2 * i + 1));
     let start = number_at(triples, 3 * i);
     let end = number_at(triples, 3 * i + 1);
     let line = number_at(triples, 3 * i + 2);

@@ -38,7 +38,8 @@ use Rattle.walks.specs.Tables.{oldNumbers, TabledT}
 use Rattle.walks.proofs.Parts.{tree-facts}
 use Rattle.walks.proofs.Edited.{edited-run}
 use Rattle.probing.specs.Passed.{passedRow, passedNumbers, passedWords}
-use Rattle.probing.specs.Contract.{Rows, RestCleared, Stands, widthAtOnce, mostPast, AreT, kidsT, Widened, widenedBy, widenedT, ProbedT, AnewT, WidenedT, WidestF}
+use Rattle.widths.specs.AtOnce.{widthAtOnce}
+use Rattle.probing.specs.Contract.{Rows, RestCleared, Stands, mostPast, AreT, kidsT, Widened, widenedBy, widenedT, ProbedT, AnewT, WidenedT, WidestF}
 use Rattle.probing.proofs.PassedRows.{passed-probed, staying-rows, staying-marks, all-cleared, rest-cleared}
 use Rattle.probing.proofs.Clauses.{probeT-known, probeT-below, asked-answer, asked-kids, anew-node, widenedT-is}
 

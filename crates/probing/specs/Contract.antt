@@ -1,23 +1,19 @@
 -- What the members of the width pass promise: at any tree that has these tables, memory ends as the definition says.
 use mathlib.Core.Path.{_≡_}
-use mathlib.Core.Bool.{Bool, cond, not, _&&_}
+use mathlib.Core.Bool.{Bool, not, _&&_}
 use mathlib.Core.List.{List, _++_, map}
 use Prim.Native.Nat.{ℕ, suc, _*_}
 use lib.ListN.{length}
 use lib.Ieee.{Float}
 use Rattle.geometry.specs.Geometry.{zeroF}
 use Rattle.util.specs.Math.{larger}
-use Rattle.util.specs.declared.OptionF32.{OptionF32}
-use Rattle.util.specs.declared.OptionF32.the-variants.{Some}
 use Rattle.length.specs.declared.AvailableSpace.{AvailableSpace}
 use Rattle.tree.specs.Tree.{Tree, Forest, node, flatT, flatF, mapT, rootT}
-use Rattle.style.specs.Flow.{isLeaf}
-use Rattle.style.specs.declared.Style.{Style}
-use Rattle.steps.specs.Width.{wantOf, outerWidth, leafWidth}
+use Rattle.steps.specs.Width.{wantOf, outerWidth}
 use Rattle.steps.specs.Row.{Row, rowNumbers, rowWords}
 use Rattle.steps.specs.Results.{listed}
 use Rattle.steps.specs.Page.{Cell, Node, cleared}
-use Rattle.steps.specs.Probe.{probeStands, probeKnown, probeT, probeF, askP, widthPass}
+use Rattle.steps.specs.Probe.{probeStands, probeT, probeF, askP, widthPass}
 use Rattle.steps.specs.declared.LayoutInput.{LayoutInput}
 use Rattle.steps.specs.declared.ProbeInput.{ProbeInput}
 use Rattle.steps.specs.declared.Want.{Want}
@@ -46,10 +42,6 @@ RestCleared rs ms rs′ ms′ =
 abbrev pub Stands : List Float → List ℕ → List ℕ → ℕ → ℕ → ProbeInput → Bool → Type 0
 Stands rs ms es b n q v =
     (r : Row) (z : List Float) (y : List ℕ) → rs ≡ rowNumbers r ++ z → ms ≡ rowWords r ++ y → v ≡ (not (touched es b n) && probeStands q r)
-
--- the width of a probed node that asks nothing of its children
-unfoldable pub widthAtOnce : Style → ProbeInput → OptionF32
-widthAtOnce s q = cond (isLeaf (s .kind)) (Some (leafWidth (s .measure) (q .available))) (probeKnown s q .width)
 
 -- the largest width so far, past a child that is not probed
 unfoldable pub mostPast : Want → Float → Float

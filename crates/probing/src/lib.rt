@@ -4,19 +4,22 @@ ghost use Prim.Native.Nat.{_<_, _≤_};
 ghost use lib.ListN.{length};
 ghost use Rattle.style.specs.Style.{planeOf, styleAt};
 ghost use Rattle.rows.specs.Store.{OneRow, Becomes, clearedRow};
-ghost use Rattle.probing.specs.Contract.{IsTree, IsForest, Rows, RestCleared, Stands, widthAtOnce, mostPast, ProbedT, AnewT, WidenedT, WidestF, PassedT};
+ghost use Rattle.probing.specs.Contract.{IsTree, IsForest, Rows, RestCleared, Stands, mostPast, ProbedT, AnewT, WidenedT, WidestF, PassedT};
 use length::AvailableSpace;
 use steps::LayoutInput;
 use steps::ProbeInput;
 use steps::Want;
 use util::OptionF32;
 
+// The levels that are left below the root.
+const BELOW_ROOT: usize = tree::MAX_DEPTH - 1;
+
 // No probe words in the first row.
 fn clear_first(rows: &mut [f32], marks: &mut [u32])
     requires { ⌜ OneRow (now rows) (now marks) ⌝ }
     ensures { λ _. ⌜ Becomes (now (rows .entry)) (now (marks .entry)) (now (rows .exit)) (now (marks .exit)) clearedRow ⌝ }
 {
-    rows::clear_probes(&mut rows[0..16], &mut marks[0..2]);
+    rows::clear_probes(&mut rows[0..style::ROW], &mut marks[0..style::MARKS]);
 }
 
 // No probe words in any row but the first.
@@ -24,7 +27,7 @@ fn clear_rest(rows: &mut [f32], marks: &mut [u32])
     requires { ⌜ Rows (now rows) (now marks) ⌝ }
     ensures { λ _. ⌜ RestCleared (now (rows .entry)) (now (marks .entry)) (now (rows .exit)) (now (marks .exit)) ⌝ }
 {
-    rows::clear_probes(&mut rows[16..], &mut marks[2..]);
+    rows::clear_probes(&mut rows[style::ROW..], &mut marks[style::MARKS..]);
 }
 
 // Does the probe noted in the first row answer this one? An edit in the run of n nodes says no.
@@ -36,21 +39,6 @@ fn stands(rows: &[f32], marks: &[u32], edits: &[u32], base: usize, n: usize, q: 
         return false;
     }
     rows::probe_stands(rows, marks, q)
-}
-
-// A width without step F below: a leaf's, or one that steps B and D give.
-fn width_at_once(words: &[u32], numbers: &[f32], base: usize, q: ProbeInput) -> OptionF32
-    requires { ⌜ (4 ≤ length (now words)) × (base < planeOf (now numbers)) ⌝ }
-    ensures { λ o. ⌜ o ≡ widthAtOnce (styleAt (now (words .entry)) 0 (now (numbers .entry)) base) q ⌝ }
-{
-    if reader::is_leaf(words) {
-        let a = q.available;
-        let w = widths::leaf_width(style::measure_at(words, 0, numbers, base), a);
-        return OptionF32::Some(w);
-    }
-    let r = reader::reader_at(words, numbers, base);
-    let known = widths::probe_known(r, numbers, q);
-    known.width
 }
 
 // The largest width so far, past a child that is not probed.
@@ -80,14 +68,14 @@ fn determine_content_based_container_width(
 {
     let mut most = 0.0f32;
     let mut i = 0usize;
-    while 4 * i < words.len() {
-        let e = i + style::word_in(words, i, 0) as usize;
-        let i4 = 4 * i;
-        let e4 = 4 * e;
-        let i16 = 16 * i;
-        let e16 = 16 * e;
-        let i2 = 2 * i;
-        let e2 = 2 * e;
+    while style::WORDS * i < words.len() {
+        let e = i + style::word_in(words, i, style::SIZE) as usize;
+        let i4 = style::WORDS * i;
+        let e4 = style::WORDS * e;
+        let i16 = style::ROW * i;
+        let e16 = style::ROW * e;
+        let i2 = style::MARKS * i;
+        let e2 = style::MARKS * e;
         most = widen(
             &words[i4..e4],
             numbers,
@@ -143,7 +131,7 @@ fn probe(
     requires { ⌜ IsTree (now words) (now numbers) (now rows) (now marks) (now edits) base depth ⌝ }
     ensures { λ r. ⌜ ProbedT (now (words .entry)) (now (numbers .entry)) (now (rows .entry)) (now (marks .entry)) (now (edits .entry)) base q r (now (rows .exit)) (now (marks .exit)) ⌝ }
 {
-    let n = words.len() / 4;
+    let n = words.len() / style::WORDS;
     if stands(rows, marks, edits, base, n, q) {
         return rows[13];
     }
@@ -167,7 +155,7 @@ fn probe_anew(
     ensures { λ r. ⌜ AnewT (now (words .entry)) (now (numbers .entry)) (now (rows .entry)) (now (marks .entry)) (now (edits .entry)) base q r (now (rows .exit)) (now (marks .exit)) ⌝ }
 {
     let a = q.available;
-    let width = width_at_once(words, numbers, base, q);
+    let width = widths::width_at_once(words, numbers, base, q);
     match width {
         OptionF32::Some(w) => {
             clear_rest(rows, marks);
@@ -177,10 +165,10 @@ fn probe_anew(
             let r = reader::reader_at(words, numbers, base);
             let inside = widths::available_inside(r, numbers, OptionF32::None, a);
             let most = determine_content_based_container_width(
-                &words[4..],
+                &words[style::WORDS..],
                 numbers,
-                &mut rows[16..],
-                &mut marks[2..],
+                &mut rows[style::ROW..],
+                &mut marks[style::MARKS..],
                 edits,
                 base + 1,
                 depth - 1,
@@ -207,7 +195,7 @@ pub fn width_pass(
     let parent = q.parent;
     let asked = q.known;
     let available = q.available;
-    let z = sizing::sizing_of(r, numbers, parent);
+    let z = sizing::sizing_without_height_basis(r, numbers, parent);
     let known = sizing::known_dimensions(reader::ratio(r, numbers), z, asked);
     let width = known.width;
     match width {
@@ -219,13 +207,13 @@ pub fn width_pass(
             clear_first(rows, marks);
             let inside = widths::available_inside(r, numbers, parent, available);
             let most = determine_content_based_container_width(
-                &words[4..],
+                &words[style::WORDS..],
                 numbers,
-                &mut rows[16..],
-                &mut marks[2..],
+                &mut rows[style::ROW..],
+                &mut marks[style::MARKS..],
                 edits,
                 1,
-                31,
+                BELOW_ROOT,
                 inside,
             );
             widths::width_from(r, numbers, parent, most)

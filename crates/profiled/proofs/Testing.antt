@@ -1,65 +1,33 @@
--- The tests before the plain call: 1 to 4 by those of a layout, and what they tell; and from the tests to what the calls promise.
-use mathlib.Core.Path.{_≡_, refl, sym, ap, _∙_, subst}
-use mathlib.Core.Bool.{Bool, true, false, cond, _||_}
-use mathlib.Core.List.{List, []}
+-- The tests before the plain call: what 1 to 4 tell; and from the tests to what the calls promise.
+use mathlib.Core.Path.{_≡_, refl, sym, ap, _∙_}
+use mathlib.Core.Bool.{false}
+use mathlib.Core.List.{List}
 use Prim.Native.Nat.{ℕ}
 use native.Mathlib.Omega.{arith}
-use lib.Dec.{ltb}
 use lib.Ieee.{Float}
-use Rattle.limits.specs.Bools.{or-left}
-use Rattle.steps.specs.Scan.{lowest}
-use Rattle.steps.specs.Page.{nodesIn, pageOf}
-use Rattle.steps.specs.Candidates.{needed}
-use Rattle.steps.specs.Noes.{paper, refuseIf, andThen, atFault, badTables, badRows, badTree, badStyle, badNumbers, badQuestion, no2, no3, no4, no5, recordsIn, pageTested, layoutTested, sizeTested}
+use Rattle.steps.specs.Noes.{refuseIf, badTables, sizeTested}
 use Rattle.steps.specs.Results.{Reply, layoutResult, relayoutResult, sizeResult}
 use Rattle.steps.specs.declared.LayoutInput.{LayoutInput}
 use Rattle.steps.specs.declared.RequestedAxis.{RequestedAxis}
 use Rattle.steps.specs.declared.Answer.{Answer}
-use Rattle.steps.specs.declared.Answer.the-variants.{Done, Lengths, Tree, Codes, Numbers, Room}
+use Rattle.steps.specs.declared.Answer.the-variants.{Done, Lengths}
 use Rattle.steps.specs.declared.SizeAnswer.{SizeAnswer}
 use Rattle.steps.specs.declared.Tested.{Tested}
 use Rattle.steps.specs.declared.Tested.the-variants.{Pass, Refuse}
-use Rattle.steps.specs.declared.Found.{Found}
-use Rattle.steps.specs.declared.Found.the-variants as found
 use Rattle.steps.specs.declared.Spot.{Spot}
-use Rattle.steps.specs.declared.Spot.the-variants.{Nowhere, At}
-use Rattle.tables.proofs.Passing.{sized, then-pass-1, if-pass}
+use Rattle.tables.specs.Early.{earlyTested}
+use Rattle.tables.proofs.Passing.{sized, then-pass-1, if-pass, early-sized}
 use Rattle.layout.specs.Public.{Replied}
 use Rattle.profile.specs.Profile.{profileSpot}
 use Rattle.profiles.specs.Numbers.{Placed}
-use Rattle.profiled.specs.Profiled.{profilePaper, profileSizePaper, earlyTested, upTo4, profileTested, ProfileReply, profileReply, profiledLayoutResult, profiledRelayoutResult, ofSize, sizeOr, profiledSizeResult, yesBy, yesOrNo}
-use Rattle.profiled.specs.Public.{ProfileReplied, ProfileSized}
+use Rattle.profiled.specs.Profiled.{profilePaper, profileSizePaper, profileTested, profileReply, profiledLayoutResult, profiledRelayoutResult, ofSize, sizeOr, profiledSizeResult, yesBy, yesOrNo}
+use Rattle.profiled.specs.Public.{ProfileReplied, ProfileSaid, ProfileSized}
 use Rattle.profiled.specs.declared.ProfileAnswer.{ProfileAnswer}
-use Rattle.profiled.specs.declared.ProfileAnswer.the-variants.{Plain, Outside}
+use Rattle.profiled.specs.declared.ProfileAnswer.the-variants.{Plain}
 use Rattle.profiled.specs.declared.ProfileSize.{ProfileSize}
 use Rattle.profiled.specs.declared.ProfileSize.the-variants as size
 use Rattle.profiled.specs.declared.ProfileTested.{ProfileTested}
 use Rattle.profiled.specs.declared.ProfileTested.the-variants as test
-
--- ---- 2 to 4 are early
-page-early : (f g h : Found) (d : Bool) (n : ℕ) → let t = andThen (atFault (λ i. Tree (record { 0 = i })) f) (andThen (atFault (λ i. Codes (record { 0 = i })) g) (andThen (atFault Numbers h) (refuseIf d (Numbers n)))) in upTo4 t ≡ t
-unfolding upTo4 andThen atFault paper
-page-early (found.At i) g h d n = refl
-page-early found.Nowhere (found.At i) h d n = refl
-page-early found.Nowhere found.Nowhere (found.At i) d n = refl
-page-early found.Nowhere found.Nowhere found.Nowhere true n = refl
-page-early found.Nowhere found.Nowhere found.Nowhere false n = refl
-
-pub page-stays : (ws : List ℕ) (xs : List Float) (q : LayoutInput) → upTo4 (pageTested ws xs q) ≡ pageTested ws xs q
-unfolding pageTested no2 no3 no4
-page-stays ws xs q = page-early (lowest (badTree ws) (nodesIn ws)) (lowest (badStyle ws xs) (nodesIn ws)) (lowest (badNumbers ws xs) (nodesIn ws)) (badQuestion q) (nodesIn ws)
-
--- 5 is not
-early-by : (b c : Bool) (p : Tested) → upTo4 p ≡ p → upTo4 (andThen (refuseIf b Lengths) (andThen p (refuseIf c Room))) ≡ andThen (refuseIf b Lengths) p
-unfolding upTo4 andThen paper
-early-by true c p e = refl
-early-by false true Pass e = refl
-early-by false false Pass e = refl
-early-by false c (Refuse a) e = e
-
-pub early-is : (ws : List ℕ) (xs rs : List Float) (ms cw : List ℕ) (cx : List Float) (q : LayoutInput) → upTo4 (layoutTested ws xs rs ms cw cx q) ≡ earlyTested ws xs rs ms q
-unfolding layoutTested earlyTested no5
-early-is ws xs rs ms cw cx q = early-by (badTables ws xs || badRows ws rs ms) (ltb (recordsIn cw cx) (needed (pageOf ws xs []))) (pageTested ws xs q) (page-stays ws xs q)
 
 -- ---- tests that pass have counted the nodes, and their numbers
 placed : (ws : List ℕ) (xs : List Float) → badTables ws xs ≡ false → Placed ws xs
@@ -68,8 +36,7 @@ placed ws xs e =
     record { few = s .few; planes = omega (arith, s .numbers) }
 
 pub few-early : (ws : List ℕ) (xs rs : List Float) (ms : List ℕ) (q : LayoutInput) → earlyTested ws xs rs ms q ≡ Pass → Placed ws xs
-unfolding earlyTested
-few-early ws xs rs ms q e = placed ws xs (or-left (badTables ws xs) _ (if-pass (badTables ws xs || badRows ws rs ms) Lengths (then-pass-1 (refuseIf (badTables ws xs || badRows ws rs ms) Lengths) _ e)))
+few-early ws xs rs ms q e = placed ws xs (early-sized ws xs rs ms q e)
 
 pub few-sized : (ws : List ℕ) (xs : List Float) (q : LayoutInput) → sizeTested ws xs q ≡ Pass → Placed ws xs
 unfolding sizeTested
@@ -114,13 +81,22 @@ module _ (ws : List ℕ) (xs : List Float) {q k : LayoutInput} {t : Tested} {p :
   size-due : profileTested (sizeTested ws xs q) (profileSpot ws xs q) ≡ p
   size-due = sym (g ∙ tested-so (f ∙ ap (sizeTested ws xs) e) (ap (profileSpot ws xs) e))
 
-  pub said-no : {a : ProfileAnswer} → p ≡ test.Refuse a → a ≡ yesOrNo ws xs q
-  unfolding yesOrNo yesBy
-  said-no h = rw (size-due ∙ h)
+  so-said : {r : ProfileAnswer} → r ≡ yesOrNo ws xs q → ProfileSaid (yesOrNo ws xs q) r
+  so-said h = record { answer-is = h; paper-is = ap profilePaper h }
 
-  pub said-yes : p ≡ test.Pass → Plain (Done 0) ≡ yesOrNo ws xs q
+  no-is : {a : ProfileAnswer} → p ≡ test.Refuse a → a ≡ yesOrNo ws xs q
   unfolding yesOrNo yesBy
-  said-yes h = rw (size-due ∙ h)
+  no-is h = rw (size-due ∙ h)
+
+  yes-is : p ≡ test.Pass → Plain (Done 0) ≡ yesOrNo ws xs q
+  unfolding yesOrNo yesBy
+  yes-is h = rw (size-due ∙ h)
+
+  pub said-no : {a : ProfileAnswer} → p ≡ test.Refuse a → ProfileSaid (yesOrNo ws xs q) a
+  said-no h = so-said (no-is h)
+
+  pub said-yes : p ≡ test.Pass → ProfileSaid (yesOrNo ws xs q) (Plain (Done 0))
+  said-yes h = so-said (yes-is h)
 
   so-sized : {r : ProfileSize} (axis : RequestedAxis) → r ≡ profiledSizeResult ws xs q axis → ProfileSized (profiledSizeResult ws xs q axis) r
   so-sized axis h = record { answer-is = h; paper-is = ap profileSizePaper h }

@@ -1,24 +1,23 @@
 -- The whole result of each call asked as profile (request 12): 1 to 4, then 11, then the plain call's result.
-use mathlib.Core.Bool.{Bool, cond, _||_}
 use mathlib.Core.List.{List}
 use Prim.Native.Nat.{ℕ}
-use lib.Dec.{ltb}
 use lib.Ieee.{Float}
 use Rattle.geometry.specs.Geometry.{zeroF}
 use Rattle.geometry.specs.declared.Size.{Size}
 use Rattle.steps.specs.SizeQuestion.{axes}
-use Rattle.steps.specs.Noes.{paper, refuseIf, andThen, badTables, badRows, pageTested, sizeTested}
+use Rattle.steps.specs.Noes.{paper, sizeTested}
 use Rattle.steps.specs.Results.{Reply, layoutResult, relayoutResult, sizeResult}
 use Rattle.steps.specs.declared.LayoutInput.{LayoutInput}
 use Rattle.steps.specs.declared.RequestedAxis.{RequestedAxis}
 use Rattle.steps.specs.declared.Answer.{Answer}
-use Rattle.steps.specs.declared.Answer.the-variants.{Done, Lengths}
+use Rattle.steps.specs.declared.Answer.the-variants.{Done}
 use Rattle.steps.specs.declared.SizeAnswer.{SizeAnswer}
 use Rattle.steps.specs.declared.SizeAnswer.the-variants as plain
 use Rattle.steps.specs.declared.Tested.{Tested}
 use Rattle.steps.specs.declared.Tested.the-variants.{Pass, Refuse}
 use Rattle.steps.specs.declared.Spot.{Spot}
 use Rattle.steps.specs.declared.Spot.the-variants.{Nowhere, At}
+use Rattle.tables.specs.Early.{earlyTested}
 use Rattle.profile.specs.Profile.{profileSpot}
 use Rattle.profiled.specs.declared.ProfileAnswer.{ProfileAnswer}
 use Rattle.profiled.specs.declared.ProfileAnswer.the-variants.{Plain, Outside}
@@ -36,15 +35,6 @@ profilePaper (Outside k) = (11, k)
 unfoldable pub profileSizePaper : ProfileSize → (ℕ × ℕ) × Size
 profileSizePaper (size.Sized s) = ((0, 0), s)
 profileSizePaper (size.Refused a) = (profilePaper a, axes zeroF zeroF)
-
--- 1 to 4 of a layout and of a relayout, which stand before 11
-unfoldable pub earlyTested : List ℕ → List Float → List Float → List ℕ → LayoutInput → Tested
-earlyTested ws xs rs ms q = andThen (refuseIf (badTables ws xs || badRows ws rs ms) Lengths) (pageTested ws xs q)
-
--- of a layout's refusals those of number 1 to 4
-unfoldable pub upTo4 : Tested → Tested
-upTo4 Pass = Pass
-upTo4 (Refuse a) = cond (ltb 4 (paper a .0)) Pass (Refuse a)
 
 -- 1 to 4, then 11 at its place
 unfoldable pub profileTested : Tested → Spot → ProfileTested

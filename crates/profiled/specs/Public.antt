@@ -22,6 +22,11 @@ pub record ProfileReplied (want : ProfileReply) (answer : ProfileAnswer) (rows :
   pub words-are : pairs ≡ want .words
   pub numbers-are : triples ≡ want .numbers
 
+-- the yes or no: the answer, by its number and place too
+pub record ProfileSaid (want answer : ProfileAnswer) : Type 0 where
+  pub answer-is : answer ≡ want
+  pub paper-is : profilePaper answer ≡ profilePaper want
+
 pub record ProfileSized (want answer : ProfileSize) : Type 0 where
   pub answer-is : answer ≡ want
   pub paper-is : profileSizePaper answer ≡ profileSizePaper want

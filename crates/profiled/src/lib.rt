@@ -3,8 +3,8 @@ ghost use mathlib.Core.Path.{_≡_};
 ghost use Rattle.steps.specs.Question.{rootInput};
 ghost use Rattle.steps.specs.Noes.{sizeTested};
 ghost use Rattle.profile.specs.Profile.{profileSpot};
-ghost use Rattle.profiled.specs.Profiled.{profilePaper, upTo4, earlyTested, profileTested, yesOrNo, ofSize, profiledLayoutResult, profiledRelayoutResult, profiledSizeResult};
-ghost use Rattle.profiled.specs.Public.{Few, ProfileReplied, ProfileSized};
+ghost use Rattle.profiled.specs.Profiled.{profilePaper, profileTested, yesOrNo, ofSize, profiledLayoutResult, profiledRelayoutResult, profiledSizeResult};
+ghost use Rattle.profiled.specs.Public.{Few, ProfileReplied, ProfileSaid, ProfileSized};
 use geometry::Size;
 use profiles::profile_spot;
 use steps::Answer;
@@ -54,36 +54,6 @@ pub fn place_of(a: ProfileAnswer) -> u32
     }
 }
 
-// 5 and later come after 11.
-fn up_to_4(t: Tested) -> Tested
-    ensures { λ r. ⌜ r ≡ upTo4 t ⌝ }
-{
-    match t {
-        Tested::Pass => Tested::Pass,
-        Tested::Refuse(a) => {
-            if 4 < steps::number_of(a) {
-                Tested::Pass
-            } else {
-                Tested::Refuse(a)
-            }
-        }
-    }
-}
-
-// 1 to 4 of a layout and of a relayout.
-fn early_tested(
-    words: &[u32],
-    numbers: &[f32],
-    rows: &[f32],
-    marks: &[u32],
-    q: LayoutInput,
-) -> Tested
-    ensures { λ r. ⌜ r ≡ earlyTested (now (words .entry)) (now (numbers .entry)) (now (rows .entry)) (now (marks .entry)) q ⌝ }
-{
-    let t = tables::layout_tested(words, numbers, rows, marks, &words[..0], &numbers[..0], q);
-    up_to_4(t)
-}
-
 // 11, where none of 1 to 4 is due.
 fn profile_tested(t: Tested, words: &[u32], numbers: &[f32], q: LayoutInput) -> ProfileTested
     requires { ⌜ Few t (now words) (now numbers) ⌝ }
@@ -100,7 +70,7 @@ fn profile_tested(t: Tested, words: &[u32], numbers: &[f32], q: LayoutInput) -> 
 
 // Is a page of the profile? Yes is 0.
 pub fn in_profile(words: &[u32], numbers: &[f32], q: Question) -> ProfileAnswer
-    ensures { λ r. ⌜ r ≡ yesOrNo (now (words .entry)) (now (numbers .entry)) (rootInput q) ⌝ }
+    ensures { λ r. ⌜ ProfileSaid (yesOrNo (now (words .entry)) (now (numbers .entry)) (rootInput q)) r ⌝ }
 {
     let asked = root_input(q);
     let t = tables::size_tested(words, numbers, asked);
@@ -124,7 +94,7 @@ pub fn layout_profiled(
     ensures { λ r. ⌜ ProfileReplied (profiledLayoutResult (now (words .entry)) (now (numbers .entry)) (now (rows .entry)) (now (marks .entry)) (now (pairs .entry)) (now (triples .entry)) (rootInput q)) r (now (rows .exit)) (now (marks .exit)) (now (pairs .exit)) (now (triples .exit)) ⌝ }
 {
     let asked = root_input(q);
-    let t = early_tested(words, numbers, rows, marks, asked);
+    let t = tables::early_tested(words, numbers, rows, marks, asked);
     let p = profile_tested(t, words, numbers, asked);
     match p {
         ProfileTested::Refuse(a) => a,
@@ -149,7 +119,7 @@ pub fn relayout_profiled(
     ensures { λ r. ⌜ ProfileReplied (profiledRelayoutResult (now (words .entry)) (now (numbers .entry)) (now (rows .entry)) (now (marks .entry)) (now (pairs .entry)) (now (triples .entry)) (now (edits .entry)) (rootInput q)) r (now (rows .exit)) (now (marks .exit)) (now (pairs .exit)) (now (triples .exit)) ⌝ }
 {
     let asked = root_input(q);
-    let t = early_tested(words, numbers, rows, marks, asked);
+    let t = tables::early_tested(words, numbers, rows, marks, asked);
     let p = profile_tested(t, words, numbers, asked);
     match p {
         ProfileTested::Refuse(a) => a,

@@ -17,7 +17,8 @@ use Rattle.steps.specs.declared.Tested.{Tested}
 use Rattle.steps.specs.declared.Tested.the-variants.{Pass, Refuse}
 use Rattle.steps.specs.declared.Spot.{Spot}
 use Rattle.steps.specs.declared.Spot.the-variants.{Nowhere, At}
-use Rattle.profiled.specs.Profiled.{earlyTested, profileTested, ProfileReply, profileReply, ofSize, sizeOr}
+use Rattle.tables.specs.Early.{earlyTested}
+use Rattle.profiled.specs.Profiled.{profileTested, ProfileReply, profileReply, ofSize, sizeOr}
 use Rattle.profiled.specs.declared.ProfileAnswer.{ProfileAnswer}
 use Rattle.profiled.specs.declared.ProfileAnswer.the-variants.{Plain, Outside}
 use Rattle.profiled.specs.declared.ProfileSize.the-variants as size

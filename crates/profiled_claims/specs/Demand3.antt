@@ -15,7 +15,8 @@ use Rattle.laws.specs.Tables.{SameShape, Named, Calls, laid-out, laid-again, Ag
 use Rattle.laws.specs.Answers.{relayout-layout}
 use Rattle.claims.specs.Claims.{relayout-is-layout, relayouts-agree}
 use Rattle.profile.specs.Profile.{profileSpot}
-use Rattle.profiled.specs.Profiled.{earlyTested, profileTested, ProfileReply, profileReply, profiledLayoutResult, profiledRelayoutResult}
+use Rattle.tables.specs.Early.{earlyTested}
+use Rattle.profiled.specs.Profiled.{profileTested, ProfileReply, profileReply, profiledLayoutResult, profiledRelayoutResult}
 use Rattle.profiled.specs.Public.{ProfileReplied}
 use Rattle.profiled.specs.declared.ProfileAnswer.the-variants.{Plain, Outside}
 use Rattle.profiled_claims.specs.Cases.{asPlain, as-plain, in-plain, same-answer, early-refuses, early-passes, layout-lent, relayout-lent, relayout-too}

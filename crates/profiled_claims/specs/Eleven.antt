@@ -26,7 +26,8 @@ use Rattle.tables.proofs.Passing.{then-pass-1, then-pass-2, if-pass, no-pass}
 use Rattle.tables.proofs.ScanLaws.{first-at, first-nowhere}
 use Rattle.profile.specs.Profile.{ofProfile, outside, wholeQuestion, elseAt, profileSpot}
 use Rattle.profile.specs.Exact.{NodesIn, LowestOutside, node-no, question-no}
-use Rattle.profiled.specs.Profiled.{earlyTested, profileTested, ProfileReply, profiledLayoutResult, profiledRelayoutResult, ofSize, sizeOr, profiledSizeResult, yesBy, yesOrNo}
+use Rattle.tables.specs.Early.{earlyTested}
+use Rattle.profiled.specs.Profiled.{profileTested, ProfileReply, profiledLayoutResult, profiledRelayoutResult, ofSize, sizeOr, profiledSizeResult, yesBy, yesOrNo}
 use Rattle.profiled.specs.declared.ProfileAnswer.{ProfileAnswer}
 use Rattle.profiled.specs.declared.ProfileAnswer.the-variants.{Plain, Outside}
 use Rattle.profiled.specs.declared.ProfileSize.{ProfileSize}

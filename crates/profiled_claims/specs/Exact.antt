@@ -22,7 +22,8 @@ use Rattle.laws.specs.Answers.{relayout-layout}
 use Rattle.profile.specs.Profile.{profileSpot}
 use Rattle.exact.specs.OnTables.{rowsZ, ExactReply, layout-is-exact, size-question-is-exact}
 use Rattle.exact_claims.specs.Relayout.{relayout-is-exact}
-use Rattle.profiled.specs.Profiled.{earlyTested, ProfileReply, profiledLayoutResult, profiledRelayoutResult, profiledSizeResult}
+use Rattle.tables.specs.Early.{earlyTested}
+use Rattle.profiled.specs.Profiled.{ProfileReply, profiledLayoutResult, profiledRelayoutResult, profiledSizeResult}
 use Rattle.profiled.specs.declared.ProfileAnswer.the-variants.{Plain, Outside}
 use Rattle.profiled.specs.declared.ProfileSize.the-variants as size
 use Rattle.profiled_claims.specs.Cases.{asLent, AllLent, lent-again, lent-unless, in-plain, plain-in, early-passes, same-answer, layout-lent, relayout-lent, size-cases}

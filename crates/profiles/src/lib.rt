@@ -5,7 +5,6 @@ ghost use Prim.Native.Nat.{_<_};
 ghost use lib.Dec.{eqb};
 ghost use Rattle.steps.specs.Page.{nodesIn};
 ghost use Rattle.steps.specs.Scan.{firstOf, some};
-ghost use Rattle.style.specs.Style.{numberAt};
 ghost use Rattle.profile.specs.Profile.{wholeLength, wholeOption, centers, ofProfile, outside, wholeQuestion, profileSpot};
 ghost use Rattle.profiles.specs.Numbers.{Placed, NodeOf, unitAt, asLength, broken, sidesAuto, inNumbers};
 use length::Length;
@@ -53,23 +52,14 @@ fn is_center(a: AlignContent) -> bool
     }
 }
 
-// Number f of node i, in planes of n.
-fn number(numbers: &[f32], n: usize, i: usize, f: usize) -> f32
-    requires { ⌜ NodeOf (now numbers) n i × (f < 28) ⌝ }
-    ensures { λ r. ⌜ r ≡ numberAt (now (numbers .entry)) i f ⌝ }
-{
-    let at = style::number_place(n, i, f);
-    numbers[at]
-}
-
 // The unit of number f: the ratio has none, and what is no length counts as pixels.
 fn unit_at(u: u32, v: u32, f: usize) -> u32
     ensures { λ r. ⌜ r ≡ unitAt u v f ⌝ }
 {
-    if f < 22 {
+    if f < style::LENGTHS {
         return style::unit(u, v, f as u32);
     }
-    if f == 22 { 0 } else { 1 }
+    if f == style::RATIO { 0 } else { 1 }
 }
 
 // Number f as a length.
@@ -77,7 +67,7 @@ fn length_at(u: u32, v: u32, numbers: &[f32], n: usize, i: usize, f: usize) -> L
     requires { ⌜ NodeOf (now numbers) n i × (f < 28) ⌝ }
     ensures { λ r. ⌜ r ≡ asLength u v (now (numbers .entry)) i f ⌝ }
 {
-    style::length_from(unit_at(u, v, f), number(numbers, n, i, f))
+    style::length_from(unit_at(u, v, f), style::number_in(numbers, n, i, f))
 }
 
 // Some number is neither auto nor whole pixels.
@@ -86,7 +76,7 @@ fn some_broken(u: u32, v: u32, numbers: &[f32], n: usize, i: usize) -> bool
     ensures { λ r. ⌜ r ≡ some (broken u v (now (numbers .entry)) i) 28 ⌝ }
 {
     let mut f = 0;
-    while f < 28 {
+    while f < style::NUMBERS {
         if !whole_length(length_at(u, v, numbers, n, i, f)) {
             return true;
         }
@@ -121,7 +111,7 @@ fn in_numbers(w: u32, u: u32, v: u32, numbers: &[f32], n: usize, i: usize) -> bo
     requires { ⌜ NodeOf (now numbers) n i ⌝ }
     ensures { λ r. ⌜ r ≡ inNumbers w u v (now (numbers .entry)) i ⌝ }
 {
-    let ratio = style::ratio_from(number(numbers, n, i, 22));
+    let ratio = style::ratio_from(style::number_in(numbers, n, i, style::RATIO));
     let align = style::align_of(w);
     !some_broken(u, v, numbers, n, i)
         && (!ratio.is_some() && (!is_center(align) && one_auto(u, v, numbers, n, i)))
@@ -132,9 +122,9 @@ fn of_profile(words: &[u32], numbers: &[f32], n: usize, i: usize) -> bool
     requires { ⌜ (n ≡ nodesIn (now words)) × NodeOf (now numbers) n i ⌝ }
     ensures { λ r. ⌜ r ≡ ofProfile (now (words .entry)) (now (numbers .entry)) i ⌝ }
 {
-    let w = style::word_in(words, i, 1);
-    let u = style::word_in(words, i, 2);
-    let v = style::word_in(words, i, 3);
+    let w = style::word_in(words, i, style::STYLE);
+    let u = style::word_in(words, i, style::UNITS);
+    let v = style::word_in(words, i, style::MORE_UNITS);
     in_numbers(w, u, v, numbers, n, i)
 }
 
@@ -143,7 +133,7 @@ fn first_outside(words: &[u32], numbers: &[f32]) -> Spot
     requires { ⌜ Placed (now words) (now numbers) ⌝ }
     ensures { λ r. ⌜ r ≡ firstOf (outside (now (words .entry)) (now (numbers .entry))) (nodesIn (now (words .entry))) ⌝ }
 {
-    let n = words.len() / 4;
+    let n = words.len() / style::WORDS;
     let mut i = 0;
     while i < n {
         if !of_profile(words, numbers, n, i) {
@@ -180,5 +170,5 @@ pub fn profile_spot(words: &[u32], numbers: &[f32], q: LayoutInput) -> Spot
     if whole_question(q) {
         return Spot::Nowhere;
     }
-    Spot::At((words.len() / 4) as u32)
+    Spot::At((words.len() / style::WORDS) as u32)
 }

@@ -27,7 +27,7 @@ pub fn is_leaf(words: &[u32]) -> bool
     requires { ⌜ 4 ≤ length (now words) ⌝ }
     ensures { λ r. ⌜ r ≡ isLeaf (kindOf (codeAt (wordAt (now (words .entry)) 0 1) 0)) ⌝ }
 {
-    style::is_leaf(style::kind_of(style::word_in(words, 0, 1)))
+    style::is_leaf(style::kind_of(style::word_in(words, 0, style::STYLE)))
 }
 
 // How the first node of these words takes part.
@@ -35,7 +35,7 @@ pub fn flow(words: &[u32]) -> Flow
     requires { ⌜ 4 ≤ length (now words) ⌝ }
     ensures { λ r. ⌜ r ≡ flowAt (wordAt (now (words .entry)) 0 1) ⌝ }
 {
-    style::flow_at(style::word_in(words, 0, 1))
+    style::flow_at(style::word_in(words, 0, style::STYLE))
 }
 
 // A reader of the first node of these words, whose numbers are those of node j.
@@ -45,21 +45,12 @@ pub fn reader_at(words: &[u32], numbers: &[f32], j: usize) -> Reader
     ensures style { λ r. ⌜ styleIn r (now (numbers .entry)) ≡ styleAt (now (words .entry)) 0 (now (numbers .entry)) j ⌝ }
 {
     Reader {
-        style: style::word_in(words, 0, 1),
-        first: style::word_in(words, 0, 2),
-        second: style::word_in(words, 0, 3),
-        plane: numbers.len() / 28,
+        style: style::word_in(words, 0, style::STYLE),
+        first: style::word_in(words, 0, style::UNITS),
+        second: style::word_in(words, 0, style::MORE_UNITS),
+        plane: numbers.len() / style::NUMBERS,
         node: j,
     }
-}
-
-// Number f. The order of the table is number_place's affair.
-fn number(r: Reader, numbers: &[f32], f: usize) -> f32
-    requires { ⌜ Reads r (now numbers) × (f < 28) ⌝ }
-    ensures { λ x. ⌜ x ≡ numberAt (now (numbers .entry)) (r .node) f ⌝ }
-{
-    let at = style::number_place(r.plane, r.node, f);
-    numbers[at]
 }
 
 // Field f, whose unit stands at k of a unit word.
@@ -67,7 +58,10 @@ fn length(units: u32, k: u32, r: Reader, numbers: &[f32], f: usize) -> Length
     requires { ⌜ (k < 16) × (Reads r (now numbers) × (f < 28)) ⌝ }
     ensures { λ l. ⌜ l ≡ lengthOf (codeAt units k) (numberAt (now (numbers .entry)) (r .node) f) ⌝ }
 {
-    style::length_from(style::code(units, k), number(r, numbers, f))
+    style::length_from(
+        style::code(units, k),
+        style::number_in(numbers, r.plane, r.node, f),
+    )
 }
 
 // Fields f and f + 1, whose units stand from k on.
@@ -119,28 +113,28 @@ pub fn margin(r: Reader, numbers: &[f32]) -> LengthRect
     requires { ⌜ Reads r (now numbers) ⌝ }
     ensures { λ l. ⌜ l ≡ styleIn r (now (numbers .entry)) .margin ⌝ }
 {
-    sides(r.first, 6, r, numbers, 6)
+    sides(r.first, 6, r, numbers, style::MARGIN)
 }
 
 pub fn padding(r: Reader, numbers: &[f32]) -> LengthRect
     requires { ⌜ Reads r (now numbers) ⌝ }
     ensures { λ l. ⌜ l ≡ styleIn r (now (numbers .entry)) .padding ⌝ }
 {
-    sides(r.first, 10, r, numbers, 10)
+    sides(r.first, 10, r, numbers, style::PADDING)
 }
 
 pub fn border(r: Reader, numbers: &[f32]) -> LengthRect
     requires { ⌜ Reads r (now numbers) ⌝ }
     ensures { λ l. ⌜ l ≡ styleIn r (now (numbers .entry)) .border ⌝ }
 {
-    sides(r.second, 0, r, numbers, 14)
+    sides(r.second, 0, r, numbers, style::BORDER)
 }
 
 pub fn inset(r: Reader, numbers: &[f32]) -> LengthRect
     requires { ⌜ Reads r (now numbers) ⌝ }
     ensures { λ l. ⌜ l ≡ styleIn r (now (numbers .entry)) .inset ⌝ }
 {
-    sides(r.second, 4, r, numbers, 18)
+    sides(r.second, 4, r, numbers, style::INSET)
 }
 
 // One side alone.
@@ -204,12 +198,12 @@ pub fn ratio(r: Reader, numbers: &[f32]) -> OptionF32
     requires { ⌜ Reads r (now numbers) ⌝ }
     ensures { λ x. ⌜ x ≡ styleIn r (now (numbers .entry)) .ratio ⌝ }
 {
-    style::ratio_from(number(r, numbers, 22))
+    style::ratio_from(style::number_in(numbers, r.plane, r.node, style::RATIO))
 }
 
 pub fn scrollbar(r: Reader, numbers: &[f32]) -> f32
     requires { ⌜ Reads r (now numbers) ⌝ }
     ensures { λ x. ⌜ x ≡ styleIn r (now (numbers .entry)) .scrollbar ⌝ }
 {
-    number(r, numbers, 23)
+    style::number_in(numbers, r.plane, r.node, style::SCROLLBAR)
 }

@@ -2,3 +2,4 @@ pub mod Fill
 pub mod Edits
 pub mod Bits
 pub mod ClearLoop
+pub mod Tests

@@ -2,12 +2,12 @@
 ghost use mathlib.Core.Path.{_≡_};
 ghost use mathlib.Core.Bool.{Bool·beq, cond, _&&_};
 ghost use mathlib.Core.List.{_++_};
-ghost use Prim.Native.Nat.{_+_, _-_, _*_, _≤_, _<_};
+ghost use Prim.Native.Nat.{_+_, _-_, _*_, _/_, _%_, _≤_, _<_};
 ghost use lib.ListN.{length, replicate};
 ghost use Rattle.geometry.specs.Geometry.{zeroF};
 ghost use Rattle.util.specs.declared.OptionF32.the-variants.{None, Some};
 ghost use Rattle.steps.specs.Row.{Row, bit, rowNumbers, rowWords, laidRow, putAt, asideRow, hiddenRow, outputIn, probeOf, availableKind, probeCode, withCode};
-ghost use Rattle.steps.specs.Kept.{finalStands};
+ghost use Rattle.steps.specs.Kept.{finalStands, laidBits};
 ghost use Rattle.steps.specs.Probe.{probeStands};
 ghost use Rattle.rows.specs.Store.{Becomes, Reads, OneRow, Whole, AllBecome, headBits, probeBits, probedRow, clearedRow};
 ghost use Rattle.rows.specs.Edited.{inRun, touched};
@@ -59,6 +59,13 @@ fn head_bits(old: u32, through: bool, given: bool, based: bool, lined: bool) -> 
         + 16 * (old / 16 % 16)
         + 256 * one(based)
         + 512 * one(lined)
+}
+
+// The bits of a row below a kept node: laid and not out of flow, the others stay.
+pub fn laid_bits(b: u32) -> u32
+    ensures { λ r. ⌜ r ≡ laidBits b (b / 16 % 16) ⌝ }
+{
+    1 + 2 * (b / 2 % 2) + 8 * (b / 8 % 2) + 16 * (b / 16 % 16) + 256 * (b / 256)
 }
 
 // A node's own row: the answer, the question as asked; the probe words stay.
@@ -122,15 +129,15 @@ pub fn put_aside(rows: &mut [f32], marks: &mut [u32], edges: Line, line: f32, or
     marks[1] = 4;
 }
 
-// A hidden child: its order, zero below.
-pub fn put_hidden(rows: &mut [f32], marks: &mut [u32], count: u32)
+// A hidden child: its order, which counts all siblings before it; zero below.
+pub fn put_hidden(rows: &mut [f32], marks: &mut [u32], order: Order)
     requires { ⌜ OneRow (now rows) (now marks) ⌝ }
-    ensures numbers { λ _. ⌜ now (rows .exit) ≡ rowNumbers (hiddenRow count) ++ replicate (length (now (rows .entry)) - 16) zeroF ⌝ }
-    ensures words { λ _. ⌜ now (marks .exit) ≡ rowWords (hiddenRow count) ++ replicate (length (now (marks .entry)) - 2) 0 ⌝ }
+    ensures numbers { λ _. ⌜ now (rows .exit) ≡ rowNumbers (hiddenRow (order .0)) ++ replicate (length (now (rows .entry)) - 16) zeroF ⌝ }
+    ensures words { λ _. ⌜ now (marks .exit) ≡ rowWords (hiddenRow (order .0)) ++ replicate (length (now (marks .entry)) - 2) 0 ⌝ }
 {
     clear(rows);
     clear_marks(marks);
-    marks[0] = count;
+    marks[0] = order.0;
 }
 
 // A number that bit 9 says is there.
@@ -165,8 +172,8 @@ pub fn output_in(rows: &[f32], marks: &[u32]) -> LayoutOutput
         size,
         top,
         bottom,
-        through: style::flag(marks[1], 1),
-        baseline: given(style::flag(marks[1], 9), rows[15]),
+        through: style::flag(marks[1], steps::THROUGH),
+        baseline: given(style::flag(marks[1], steps::BASELINE_GIVEN), rows[15]),
     }
 }
 
@@ -214,9 +221,9 @@ pub fn clear_probes(rows: &mut [f32], marks: &mut [u32])
     ensures { λ _. ⌜ AllBecome (now (rows .entry)) (now (marks .entry)) (now (rows .exit)) (now (marks .exit)) clearedRow ⌝ }
 {
     let mut i = 0usize;
-    while 2 * i < marks.len() {
-        let k = 16 * i + 11;
-        let m = 2 * i + 1;
+    while style::MARKS * i < marks.len() {
+        let k = style::ROW * i + 11;
+        let m = style::MARKS * i + 1;
         rows[k] = 0.0;
         rows[k + 1] = 0.0;
         rows[k + 2] = 0.0;
@@ -255,32 +262,6 @@ fn same_flag(a: bool, b: bool) -> bool
     if a { b } else { !b }
 }
 
-fn all_five(a: bool, b: bool, c: bool, d: bool, e: bool) -> bool
-    ensures { λ r. ⌜ r ≡ (a && (b && (c && (d && e)))) ⌝ }
-{
-    if a {
-        if b {
-            if c {
-                if d {
-                    return e;
-                }
-            }
-        }
-    }
-    false
-}
-
-fn all_three(a: bool, b: bool, c: bool) -> bool
-    ensures { λ r. ⌜ r ≡ (a && (b && c)) ⌝ }
-{
-    if a {
-        if b {
-            return c;
-        }
-    }
-    false
-}
-
 // A final question stands answered in a row.
 pub fn final_stands(rows: &[f32], marks: &[u32], q: LayoutInput) -> bool
     requires { ⌜ OneRow (now rows) (now marks) ⌝ }
@@ -292,17 +273,16 @@ pub fn final_stands(rows: &[f32], marks: &[u32], q: LayoutInput) -> bool
     let parent = q.parent;
     let basis = q.basis;
     let bits = marks[1];
-    all_five(
-        style::flag(bits, 0),
-        limits::same_bits(rows[8], kw.or_zero()),
-        limits::same_bits(rows[9], kh.or_zero()),
-        same_flag(style::flag(bits, 3), kh.is_some()),
-        all_three(
-            limits::same_bits(rows[10], parent.or_zero()),
-            limits::same_bits(rows[14], basis.or_zero()),
-            same_flag(style::flag(bits, 8), basis.is_some()),
-        ),
-    )
+    style::flag(bits, steps::LAID)
+        && (limits::same_bits(rows[8], kw.or_zero())
+            && (limits::same_bits(rows[9], kh.or_zero())
+                && (same_flag(style::flag(bits, steps::HEIGHT_GIVEN), kh.is_some())
+                    && (limits::same_bits(rows[10], parent.or_zero())
+                        && (limits::same_bits(rows[14], basis.or_zero())
+                            && same_flag(
+                                style::flag(bits, steps::BASIS_GIVEN),
+                                basis.is_some(),
+                            ))))))
 }
 
 // A probe stands answered in a row.
@@ -314,11 +294,12 @@ pub fn probe_stands(rows: &[f32], marks: &[u32], q: ProbeInput) -> bool
     let height = q.height;
     let bits = marks[1];
     let kind = available_kind(available);
-    all_five(
-        style::flag(bits, 4),
-        limits::same_bits(rows[11], available.into_option().or_zero()),
-        limits::same_bits(rows[12], height.or_zero()),
-        bits / 32 % 4 == kind,
-        same_flag(style::flag(bits, 7), height.is_some()),
-    )
+    style::flag(bits, steps::PROBED)
+        && (limits::same_bits(rows[11], available.into_option().or_zero())
+            && (limits::same_bits(rows[12], height.or_zero())
+                && (bits / 32 % 4 == kind
+                    && same_flag(
+                        style::flag(bits, steps::PROBE_HEIGHT_GIVEN),
+                        height.is_some(),
+                    ))))
 }

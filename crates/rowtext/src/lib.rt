@@ -12,6 +12,7 @@ use print::put_decimal;
 use print::put_hex;
 use print::put_number;
 use print::put_text;
+use tree::Order;
 
 // A comma and a bit pattern.
 fn put_bits(out: &mut [u8], at: usize, w: u32) -> usize
@@ -28,8 +29,8 @@ fn put_numbers(out: &mut [u8], at: usize, i: usize, rows: &[f32]) -> usize
 {
     let mut a = at;
     let mut k = 0usize;
-    while k < 16 {
-        let x = number_at(rows, 16 * i + k);
+    while k < style::ROW {
+        let x = number_at(rows, style::ROW * i + k);
         a = put_number(out, a, x);
         k += 1;
     }
@@ -41,11 +42,11 @@ fn put_row(out: &mut [u8], at: usize, i: usize, rows: &[f32], marks: &[u32]) -> 
     requires { ⌜ i < 4294967296 ⌝ }
     ensures { λ r. ⌜ pen (now (out .exit)) r ≡ putAll (rowLine (now (rows .entry)) (now (marks .entry)) i) (pen (now (out .entry)) at) ⌝ }
 {
-    let order = word_at(marks, 2 * i);
-    let bits = word_at(marks, 2 * i + 1);
+    let order = Order(word_at(marks, style::MARKS * i));
+    let bits = word_at(marks, style::MARKS * i + 1);
     let a = put_text(out, at, b"row=");
     let b = put_decimal(out, a, i as u64, 20);
-    let c = put_count(out, b, order as u64);
+    let c = put_count(out, b, order.0 as u64);
     let d = put_bits(out, c, bits);
     let e = put_numbers(out, d, i, rows);
     put(out, e, b'\n')

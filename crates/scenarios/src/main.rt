@@ -1,6 +1,5 @@
 // What a relayout leaves beside what a fresh layout leaves, for edits of a meter's page.
 mod page;
-mod same;
 mod show;
 
 use length::AvailableSpace;
@@ -9,6 +8,7 @@ use steps::Answer;
 use steps::Question;
 use steps::number_of;
 use steps::place_of;
+use tree::NodeId;
 use util::OptionF32;
 use util::OptionSize;
 
@@ -151,10 +151,10 @@ fn one_edit(
     numbers: &[f32],
     rows: &mut [f32],
     marks: &mut [u32],
-    node: u32,
+    node: NodeId,
     q: Question,
 ) {
-    let edits = [node];
+    let edits = [node.0];
     beside(words, numbers, rows, marks, &edits, q);
 }
 
@@ -180,7 +180,7 @@ fn notice_grows() {
     start(&mut words, &mut numbers, &mut rows, &mut marks, q);
     put(&mut numbers, page::NOTICE, page::HEIGHT, 64.0);
     show::text(b"\n1. The notice grows from 40 to 64 pixels. Edit: 2.\n");
-    one_edit(&words, &numbers, &mut rows, &mut marks, 2, q);
+    one_edit(&words, &numbers, &mut rows, &mut marks, NodeId(2), q);
 }
 
 // Rows that held zeros are laid; the orders after them move up by one.
@@ -193,7 +193,7 @@ fn row_is_shown() {
     start(&mut words, &mut numbers, &mut rows, &mut marks, q);
     page::style(&mut words, page::TARIFF, page::BLOCK);
     show::text(b"\n2. The tariff row is shown. Edit: 6.\n");
-    one_edit(&words, &numbers, &mut rows, &mut marks, 6, q);
+    one_edit(&words, &numbers, &mut rows, &mut marks, NodeId(6), q);
 }
 
 // No child of the page is kept. 9 and 10 are: the export row is 200 pixels wide as before, so they are asked the same.
@@ -223,10 +223,10 @@ fn chain() {
     start(&mut words, &mut numbers, &mut rows, &mut marks, q);
     page::style(&mut words, page::BADGE, page::HIDDEN);
     show::text(b"\n4a. The badge is hidden. Edit: 11.\n");
-    one_edit(&words, &numbers, &mut rows, &mut marks, 11, q);
+    one_edit(&words, &numbers, &mut rows, &mut marks, NodeId(11), q);
     put(&mut numbers, page::IMPORT_LABEL, page::MARGIN_TOP, -26.0);
     show::text(b"\n4b. Then the import label's top margin turns from 20 to -26. Edit: 4.\n");
-    one_edit(&words, &numbers, &mut rows, &mut marks, 4, q);
+    one_edit(&words, &numbers, &mut rows, &mut marks, NodeId(4), q);
     page::style(&mut words, page::BADGE, page::LEAF | page::OUT);
     put(&mut numbers, page::HEADING, page::HEIGHT, 30.0);
     show::text(
@@ -248,10 +248,10 @@ fn width_from_content() {
     show::text(
         b"\n5a. As wide as the content wants; the import value grows from 30 to 42. Edit: 5.\n",
     );
-    one_edit(&words, &numbers, &mut rows, &mut marks, 5, q);
+    one_edit(&words, &numbers, &mut rows, &mut marks, NodeId(5), q);
     put(&mut numbers, page::NOTICE, page::MOST, 320.0);
     show::text(b"\n5b. Then the notice wants 320 pixels in place of 280. Edit: 2.\n");
-    one_edit(&words, &numbers, &mut rows, &mut marks, 2, q);
+    one_edit(&words, &numbers, &mut rows, &mut marks, NodeId(2), q);
 }
 
 // The probes ask for another width, so each is asked anew.
@@ -283,9 +283,9 @@ fn change_not_named() {
     show::text(
         b"    The list names the notice alone: the import row keeps its old height. Edit: 2.\n",
     );
-    one_edit(&words, &numbers, &mut rows, &mut marks, 2, q);
+    one_edit(&words, &numbers, &mut rows, &mut marks, NodeId(2), q);
     show::text(b"\n6b. Now the list names the value. Edit: 5.\n");
-    one_edit(&words, &numbers, &mut rows, &mut marks, 5, q);
+    one_edit(&words, &numbers, &mut rows, &mut marks, NodeId(5), q);
 }
 
 // Heights that are parts of their container's: it alone is named when it grows, and the boxes in it follow.
@@ -304,7 +304,7 @@ fn half_heights() {
     beside(&words, &numbers, &mut rows, &mut marks, &edits, q);
     put(&mut numbers, page::EXPORT, page::BOX_HEIGHT, 120.0);
     show::text(b"\n7b. Then the row grows to 120 pixels. Edit: 8.\n");
-    one_edit(&words, &numbers, &mut rows, &mut marks, 8, q);
+    one_edit(&words, &numbers, &mut rows, &mut marks, NodeId(8), q);
 }
 
 fn legend() {

@@ -1,12 +1,13 @@
 // Writes rows and candidates, two answers side by side.
 use crate::page::NODES;
 use crate::page::RECORDS;
-use crate::same;
 use libc::STDOUT_FILENO;
 use steps::Answer;
 use steps::number_of;
 use steps::place_of;
 use text::bits_of;
+use tree::NodeId;
+use tree::Order;
 
 pub fn text(t: &[u8]) {
     io::write_all(STDOUT_FILENO, t);
@@ -142,10 +143,12 @@ pub fn nodes(rows: &[f32], marks: &[u32], fresh: &[f32], fresh_marks: &[u32]) {
 // Node, order, start, end and line of record k.
 fn record(pairs: &[u32], triples: &[f32], k: usize) {
     if k < RECORDS {
+        let node = NodeId(word_at(pairs, 2 * k));
+        let order = Order(word_at(pairs, 2 * k + 1));
         text(b" ");
-        count(word_at(pairs, 2 * k));
+        count(node.0);
         text(b" ");
-        count(word_at(pairs, 2 * k + 1));
+        count(order.0);
         text(b" ");
         number(number_at(triples, 3 * k));
         text(b" ");

@@ -2,6 +2,7 @@
 use mathlib.Core.Path.{_≡_}
 use mathlib.Core.Bool.{Bool, true, false, cond}
 use mathlib.Core.List.{List}
+use mathlib.Core.Option.{Option, none, some}
 use Prim.Native.Nat.{ℕ, _<_}
 use lib.ListN.{length}
 use lib.Dec.{ltb}
@@ -24,11 +25,16 @@ position k n = cond (ltb k n) (First k) Nothing
 unfoldable pub scrollAnswer : List Float → Float → ScrollAnswer
 scrollAnswer l y = cond (isFinite y) (position (halved (beyond l y) (length l) 0 (length l)) (length l)) NotFinite
 
--- this paper's number and place of each answer
-unfoldable pub scrollPaper : ScrollAnswer → ℕ × ℕ
-scrollPaper (First k) = (0, 0)
-scrollPaper Nothing = (0, 0)
-scrollPaper NotFinite = (10, 0)
+-- this paper's number and place of each answer, and what was found: a position, or none
+unfoldable pub scrollPaper : ScrollAnswer → (ℕ × ℕ) × Option ℕ
+scrollPaper (First k) = ((0, 0), some k)
+scrollPaper Nothing = ((0, 0), none)
+scrollPaper NotFinite = ((10, 0), none)
+
+-- what the call promises: its answer, by its number, place and position too, is the definition's
+pub record ScrollReplied (want answer : ScrollAnswer) : Type 0 where
+  pub answer-is : answer ≡ want
+  pub paper-is : scrollPaper answer ≡ scrollPaper want
 
 -- what each answer is given for, where the slice is the running largest of these bottoms
 abbrev pub ScrollDue : List Float → Float → ScrollAnswer → Type 0

@@ -2,7 +2,7 @@
 ghost use mathlib.Core.Path.{_≡_};
 ghost use lib.ListN.{length};
 ghost use Rattle.scroll.specs.Halving.{halved, beyond};
-ghost use Rattle.scroll.specs.Scroll.{isFinite, scrollAnswer};
+ghost use Rattle.scroll.specs.Scroll.{isFinite, scrollAnswer, ScrollReplied};
 use limits::in_range;
 
 // What the scroll key finds: a position in the list, or that there is none.
@@ -38,7 +38,7 @@ fn halve(running: &[f32], y: f32) -> usize
 
 // The first position of the index whose bottom edge is a greater number than y.
 pub fn scroll(running: &[f32], y: f32) -> ScrollAnswer
-    ensures { λ r. ⌜ r ≡ scrollAnswer (now (running .entry)) y ⌝ }
+    ensures { λ r. ⌜ ScrollReplied (scrollAnswer (now (running .entry)) y) r ⌝ }
 {
     if !is_finite(y) {
         return ScrollAnswer::NotFinite;

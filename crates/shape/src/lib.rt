@@ -18,7 +18,11 @@ use tree::NodeId;
 fn long_leaf(style: u32, size: usize) -> bool
     ensures { λ r. ⌜ r ≡ eqb (codeAt style 0) 1 && ltb 1 size ⌝ }
 {
-    if code(style, 0) == 1 { 1 < size } else { false }
+    if code(style, style::KIND) == 1 {
+        1 < size
+    } else {
+        false
+    }
 }
 
 // 2, of a node below the root. `room` is the number of nodes from here to the end of its parent's run.
@@ -42,17 +46,21 @@ fn below(words: &[u32], base: usize, depth: u32) -> Found
     requires { ⌜ base + nodesIn (now words) ≤ 4294967295 ⌝ }
     ensures { λ r. ⌜ CheckedPart (now (words .entry)) base depth r ⌝ }
 {
-    let n = words.len() / 4;
+    let n = words.len() / style::WORDS;
     let mut a = 0;
     while a < n {
-        let size = word_in(words, a, 0) as usize;
-        let style = word_in(words, a, 1);
+        let size = word_in(words, a, style::SIZE) as usize;
+        let style = word_in(words, a, style::STYLE);
         if node_fault(size, style, n - a, depth) {
             return Found::At(NodeId((base + a) as u32));
         }
         let b = a + 1;
         let e = a + size;
-        let found = below(&words[4 * b..4 * e], base + b, depth - 1);
+        let found = below(
+            &words[style::WORDS * b..style::WORDS * e],
+            base + b,
+            depth - 1,
+        );
         if let Found::At(i) = found {
             return Found::At(i);
         }
@@ -61,20 +69,23 @@ fn below(words: &[u32], base: usize, depth: u32) -> Found
     Found::Nowhere
 }
 
+// 2: the depth left below the root.
+const BELOW_ROOT: u32 = tree::MAX_DEPTH as u32 - 1;
+
 // 2: the lowest node at fault.
 pub fn check_tree(words: &[u32]) -> Found
     ensures { λ r. ⌜ r ≡ lowest (badTree (now (words .entry))) (nodesIn (now (words .entry))) ⌝ }
 {
-    let n = words.len() / 4;
+    let n = words.len() / style::WORDS;
     if n == 0 {
         return Found::Nowhere;
     }
-    let size = word(words, 0, 0) as usize;
+    let size = word(words, 0, style::SIZE) as usize;
     if size != n {
         return Found::At(NodeId(0));
     }
-    if long_leaf(word(words, 0, 1), size) {
+    if long_leaf(word(words, 0, style::STYLE), size) {
         return Found::At(NodeId(0));
     }
-    below(&words[4..4 * n], 1, 31)
+    below(&words[style::WORDS..style::WORDS * n], 1, BELOW_ROOT)
 }

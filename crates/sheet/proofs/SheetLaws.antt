@@ -27,33 +27,33 @@ pub place-in : (n i f len : ℕ) → i < n → f < len / n → numberPlace n i f
 place-in n i f len h g = omega (arith, suc-mul f n, mul-le-mul-right {m = suc f} {n = len / n} n g, div-mul-le-self len n)
 
 module _ (x : NodeNumber) (ws : List ℕ) (xs : List Float) (l : List ℕ) (c : ℕ) where
-  pub number-no-node : nodesIn ws ≤ x .node → sheet ws xs l c ≡ numberEdit x (sheet ws xs l c)
+  pub number-no-node : nodesIn ws ≤ x .node .0 → sheet ws xs l c ≡ numberEdit x (sheet ws xs l c)
   unfolding numberEdit hasNumber
-  number-no-node h = rw (le-ltb (x .node) (nodesIn ws) h)
+  number-no-node h = rw (le-ltb (x .node .0) (nodesIn ws) h)
 
-  pub number-no-field : x .node < nodesIn ws → length xs / nodesIn ws ≤ x .field → sheet ws xs l c ≡ numberEdit x (sheet ws xs l c)
+  pub number-no-field : x .node .0 < nodesIn ws → length xs / nodesIn ws ≤ x .field → sheet ws xs l c ≡ numberEdit x (sheet ws xs l c)
   unfolding numberEdit hasNumber
-  number-no-field h g = rw (lt-ltb (x .node) (nodesIn ws) h, le-ltb (x .field) (length xs / nodesIn ws) g)
+  number-no-field h g = rw (lt-ltb (x .node .0) (nodesIn ws) h, le-ltb (x .field) (length xs / nodesIn ws) g)
 
-  pub number-edited : (l′ : List ℕ) (c′ : ℕ) → x .node < nodesIn ws → x .field < length xs / nodesIn ws → noted (x .node) l c ≡ (l′, c′)
-      → sheet ws (set xs (numberPlace (nodesIn ws) (x .node) (x .field)) (x .value)) l′ c′ ≡ numberEdit x (sheet ws xs l c)
+  pub number-edited : (l′ : List ℕ) (c′ : ℕ) → x .node .0 < nodesIn ws → x .field < length xs / nodesIn ws → noted (x .node .0) l c ≡ (l′, c′)
+      → sheet ws (set xs (numberPlace (nodesIn ws) (x .node .0) (x .field)) (x .value)) l′ c′ ≡ numberEdit x (sheet ws xs l c)
   unfolding numberEdit hasNumber editOf
-  number-edited l′ c′ h g e = rw (lt-ltb (x .node) (nodesIn ws) h, lt-ltb (x .field) (length xs / nodesIn ws) g, e)
+  number-edited l′ c′ h g e = rw (lt-ltb (x .node .0) (nodesIn ws) h, lt-ltb (x .field) (length xs / nodesIn ws) g, e)
 
 module _ (x : NodeWord) (ws : List ℕ) (xs : List Float) (l : List ℕ) (c : ℕ) where
-  pub word-no-node : nodesIn ws ≤ x .node → sheet ws xs l c ≡ wordEdit x (sheet ws xs l c)
+  pub word-no-node : nodesIn ws ≤ x .node .0 → sheet ws xs l c ≡ wordEdit x (sheet ws xs l c)
   unfolding wordEdit hasWord
-  word-no-node h = rw (le-ltb (x .node) (nodesIn ws) h)
+  word-no-node h = rw (le-ltb (x .node .0) (nodesIn ws) h)
 
-  pub word-zero : x .node < nodesIn ws → x .word ≡ 0 → sheet ws xs l c ≡ wordEdit x (sheet ws xs l c)
+  pub word-zero : x .node .0 < nodesIn ws → x .word ≡ 0 → sheet ws xs l c ≡ wordEdit x (sheet ws xs l c)
   unfolding wordEdit hasWord
-  word-zero h e = rw (lt-ltb (x .node) (nodesIn ws) h, e)
+  word-zero h e = rw (lt-ltb (x .node .0) (nodesIn ws) h, e)
 
-  pub word-large : x .node < nodesIn ws → 0 < x .word → 3 < x .word → sheet ws xs l c ≡ wordEdit x (sheet ws xs l c)
+  pub word-large : x .node .0 < nodesIn ws → 0 < x .word → 3 < x .word → sheet ws xs l c ≡ wordEdit x (sheet ws xs l c)
   unfolding wordEdit hasWord
-  word-large h p g = rw (lt-ltb (x .node) (nodesIn ws) h, lt-ltb 0 (x .word) p, lt-leb (x .word) 3 g)
+  word-large h p g = rw (lt-ltb (x .node .0) (nodesIn ws) h, lt-ltb 0 (x .word) p, lt-leb (x .word) 3 g)
 
-  pub word-edited : (l′ : List ℕ) (c′ : ℕ) → x .node < nodesIn ws → 0 < x .word → x .word ≤ 3 → noted (x .node) l c ≡ (l′, c′)
-      → sheet (set ws (x .node * 4 + x .word) (x .bits)) xs l′ c′ ≡ wordEdit x (sheet ws xs l c)
+  pub word-edited : (l′ : List ℕ) (c′ : ℕ) → x .node .0 < nodesIn ws → 0 < x .word → x .word ≤ 3 → noted (x .node .0) l c ≡ (l′, c′)
+      → sheet (set ws (x .node .0 * 4 + x .word) (x .bits)) xs l′ c′ ≡ wordEdit x (sheet ws xs l c)
   unfolding wordEdit hasWord editOf
-  word-edited l′ c′ h p g e = rw (lt-ltb (x .node) (nodesIn ws) h, lt-ltb 0 (x .word) p, le-leb (x .word) 3 g, e)
+  word-edited l′ c′ h p g e = rw (lt-ltb (x .node .0) (nodesIn ws) h, lt-ltb 0 (x .word) p, le-leb (x .word) 3 g, e)

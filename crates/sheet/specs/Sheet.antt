@@ -30,17 +30,17 @@ editOf i ws xs s = sheet ws xs (noted i (s .list) (s .count) .0) (noted i (s .li
 
 -- there is such a node, with such a number: a place in planes of n
 unfoldable pub hasNumber : NodeNumber → Sheet → Bool
-hasNumber x s = ltb (x .node) (nodesIn (s .words)) && ltb (x .field) (length (s .numbers) / nodesIn (s .words))
+hasNumber x s = ltb (x .node .0) (nodesIn (s .words)) && ltb (x .field) (length (s .numbers) / nodesIn (s .words))
 
 -- there is such a node, with such a word; word 0 is not edited
 unfoldable pub hasWord : NodeWord → Sheet → Bool
-hasWord x s = ltb (x .node) (nodesIn (s .words)) && (ltb 0 (x .word) && leb (x .word) 3)
+hasWord x s = ltb (x .node .0) (nodesIn (s .words)) && (ltb 0 (x .word) && leb (x .word) 3)
 
 -- a number of a node; what does not exist is not edited
 unfoldable pub numberEdit : NodeNumber → Sheet → Sheet
 numberEdit x s =
-    cond (hasNumber x s) (editOf (x .node) (s .words) (set (s .numbers) (numberPlace (nodesIn (s .words)) (x .node) (x .field)) (x .value)) s) s
+    cond (hasNumber x s) (editOf (x .node .0) (s .words) (set (s .numbers) (numberPlace (nodesIn (s .words)) (x .node .0) (x .field)) (x .value)) s) s
 
 -- a word of a node
 unfoldable pub wordEdit : NodeWord → Sheet → Sheet
-wordEdit x s = cond (hasWord x s) (editOf (x .node) (set (s .words) (x .node * 4 + x .word) (x .bits)) (s .numbers) s) s
+wordEdit x s = cond (hasWord x s) (editOf (x .node .0) (set (s .words) (x .node .0 * 4 + x .word) (x .bits)) (s .numbers) s) s

@@ -23,7 +23,7 @@ fn box_size(
 ) -> OptionSize
     ensures { λ r. ⌜ ((s : Style) → s .content ≡ content → s .ratio ≡ ratio → r ≡ boxSize s l basis height both) ⌝ }
 {
-    let plain = l.resolve_axes(basis, height)
+    let plain = l.maybe_resolve(basis, height)
         .maybe_apply_aspect_ratio(ratio);
     if content {
         plain.maybe_add(both.sum_axes())
@@ -33,14 +33,14 @@ fn box_size(
 }
 
 // Step A.
-pub fn sizing_in(r: Reader, numbers: &[f32], basis: OptionF32, height: OptionF32) -> Sizing
+pub fn sizing_of(r: Reader, numbers: &[f32], basis: OptionF32, height: OptionF32) -> Sizing
     requires { ⌜ Reads r (now numbers) ⌝ }
     ensures { λ z. ⌜ z ≡ sizingOf (styleIn r (now (numbers .entry))) basis height ⌝ }
 {
-    let padding = reader::padding(r, numbers).resolve_sides(basis);
-    let border = reader::border(r, numbers).resolve_sides(basis);
+    let padding = reader::padding(r, numbers).resolve_or_zero(basis);
+    let border = reader::border(r, numbers).resolve_or_zero(basis);
     let both = padding.add(border);
-    let content = style::flag(r.style, 2);
+    let content = style::flag(r.style, style::CONTENT_BOX);
     let ratio = reader::ratio(r, numbers);
     let size = reader::size(r, numbers);
     let min = reader::min(r, numbers);
@@ -56,11 +56,11 @@ pub fn sizing_in(r: Reader, numbers: &[f32], basis: OptionF32, height: OptionF32
 }
 
 // Step A where no height has a basis.
-pub fn sizing_of(r: Reader, numbers: &[f32], basis: OptionF32) -> Sizing
+pub fn sizing_without_height_basis(r: Reader, numbers: &[f32], basis: OptionF32) -> Sizing
     requires { ⌜ Reads r (now numbers) ⌝ }
     ensures { λ z. ⌜ z ≡ stepA (styleIn r (now (numbers .entry))) basis ⌝ }
 {
-    sizing_in(r, numbers, basis, OptionF32::None)
+    sizing_of(r, numbers, basis, OptionF32::None)
 }
 
 // Step A's padding+border on the left, and on the right.
@@ -89,7 +89,7 @@ pub fn both_across(r: Reader, numbers: &[f32], basis: OptionF32) -> f32
 }
 
 // Step B: min where max <= min.
-fn decided_min(lo: OptionF32, hi: OptionF32) -> OptionF32
+fn min_max_definite_size(lo: OptionF32, hi: OptionF32) -> OptionF32
     ensures { λ r. ⌜ r ≡ decided lo hi ⌝ }
 {
     match lo {
@@ -111,12 +111,12 @@ fn known_axis(asked: OptionF32, size: OptionF32, lo: OptionF32, hi: OptionF32, p
     ensures { λ r. ⌜ r ≡ knownAxis asked size lo hi pb ⌝ }
 {
     asked
-        .or(decided_min(lo, hi).or(size.clamp(lo, hi)))
-        .floor(pb)
+        .or(min_max_definite_size(lo, hi).or(size.maybe_clamp(lo, hi)))
+        .maybe_max(pb)
 }
 
 // Step B.
-pub fn known_by_style(z: Sizing, asked: OptionSize) -> OptionSize
+pub fn styled_based_known_dimensions(z: Sizing, asked: OptionSize) -> OptionSize
     ensures { λ r. ⌜ r ≡ stepB z asked ⌝ }
 {
     let both = z.both;
@@ -151,8 +151,8 @@ fn fill_axes(z: Sizing, known: OptionSize, f: OptionSize) -> OptionSize
     let hw = max.width;
     let hh = max.height;
     OptionSize {
-        width: kw.or(fw.clamp(lw, hw)),
-        height: kh.or(fh.clamp(lh, hh)),
+        width: kw.or(fw.maybe_clamp(lw, hw)),
+        height: kh.or(fh.maybe_clamp(lh, hh)),
     }
 }
 
@@ -167,7 +167,7 @@ pub fn known_by_ratio(ratio: OptionF32, z: Sizing, known: OptionSize) -> OptionS
 pub fn known_dimensions(ratio: OptionF32, z: Sizing, asked: OptionSize) -> OptionSize
     ensures { λ r. ⌜ ((s : Style) → s .ratio ≡ ratio → r ≡ knownOf s z asked) ⌝ }
 {
-    known_by_ratio(ratio, z, known_by_style(z, asked))
+    known_by_ratio(ratio, z, styled_based_known_dimensions(z, asked))
 }
 
 fn bar(o: Overflow, x: f32) -> f32
@@ -188,7 +188,7 @@ fn scrollbar_gutter(r: Reader, numbers: &[f32]) -> Rect
     let o = style::overflow_of(r.style);
     let ox = o.x;
     let oy = o.y;
-    let rtl = style::flag(r.style, 3);
+    let rtl = style::flag(r.style, style::RTL);
     let width = reader::scrollbar(r, numbers);
     let side = bar(oy, width);
     let bottom = bar(ox, width);

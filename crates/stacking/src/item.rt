@@ -10,7 +10,7 @@ ghost use Rattle.steps.specs.Stack.{negOpt, offsetX, relativeOffset, offsetBy, 
 ghost use Rattle.stacking.specs.Footing.{footingOf};
 use crate::Footing;
 use crate::Plan;
-use crate::inner_width;
+use crate::container_inner_width;
 use geometry::Point;
 use length::AvailableSpace;
 use length::LengthRect;
@@ -71,31 +71,31 @@ fn offset_by(p: Position, i: LengthRect, rtl: bool, basis: OptionF32, height: Op
 }
 
 // A child's item, of its style.
-fn item_of(f: Frame, r: Reader, numbers: &[f32]) -> BlockItem
+fn item_of(frame: Frame, r: Reader, numbers: &[f32]) -> BlockItem
     requires { ⌜ Reads r (now numbers) ⌝ }
-    ensures { λ i. ⌜ i ≡ itemOf f (styleIn r (now (numbers .entry))) ⌝ }
+    ensures { λ i. ⌜ i ≡ itemOf frame (styleIn r (now (numbers .entry))) ⌝ }
 {
-    let height = f.heightBasis;
+    let height = frame.heightBasis;
     let margin = reader::margin(r, numbers);
     let left = margin.left;
     let right = margin.right;
     let position = style::position_of(r.style);
     let inset = reader::inset(r, numbers);
-    let inner = inner_width(f);
+    let inner = container_inner_width(frame);
     BlockItem {
-        sizing: sizing::sizing_in(r, numbers, OptionF32::Some(inner), height),
-        margin: margin.resolve_sides(OptionF32::Some(inner)),
+        sizing: sizing::sizing_of(r, numbers, OptionF32::Some(inner), height),
+        margin: margin.resolve_or_zero(OptionF32::Some(inner)),
         left: length::is_auto(left),
         right: length::is_auto(right),
-        offset: offset_by(position, inset, f.rtl, OptionF32::Some(inner), height),
+        offset: offset_by(position, inset, frame.rtl, OptionF32::Some(inner), height),
     }
 }
 
-fn asked_width(f: Frame, i: BlockItem) -> f32
-    ensures { λ r. ⌜ r ≡ askedWidth f i ⌝ }
+fn asked_width(frame: Frame, item: BlockItem) -> f32
+    ensures { λ r. ⌜ r ≡ askedWidth frame item ⌝ }
 {
-    let margin = i.margin;
-    let z = i.sizing;
+    let margin = item.margin;
+    let z = item.sizing;
     let both = z.both;
     let size = z.size;
     let min = z.min;
@@ -103,17 +103,17 @@ fn asked_width(f: Frame, i: BlockItem) -> f32
     let w = size.width;
     let lo = min.width;
     let hi = max.width;
-    let stretched = inner_width(f) - margin.horizontal_axis_sum();
+    let stretched = container_inner_width(frame) - margin.horizontal_axis_sum();
     util::f32_max(
         util::maybe_clamp(w.unwrap_or(stretched), lo, hi),
         both.horizontal_axis_sum(),
     )
 }
 
-fn asked_height(i: BlockItem) -> OptionF32
-    ensures { λ r. ⌜ r ≡ askedHeight i ⌝ }
+fn asked_height(item: BlockItem) -> OptionF32
+    ensures { λ r. ⌜ r ≡ askedHeight item ⌝ }
 {
-    let z = i.sizing;
+    let z = item.sizing;
     let both = z.both;
     let size = z.size;
     let min = z.min;
@@ -121,23 +121,23 @@ fn asked_height(i: BlockItem) -> OptionF32
     let h = size.height;
     let lo = min.height;
     let hi = max.height;
-    h.clamp(lo, hi).floor(both.vertical_axis_sum())
+    h.maybe_clamp(lo, hi).maybe_max(both.vertical_axis_sum())
 }
 
 // The final question that a container puts to a child, of its item.
-fn child_input(f: Frame, r: Reader, i: BlockItem) -> LayoutInput
-    ensures { λ q. ⌜ ((xs : List Float) → q ≡ childInput f (styleIn r xs) i) ⌝ }
+fn child_input(frame: Frame, r: Reader, item: BlockItem) -> LayoutInput
+    ensures { λ q. ⌜ ((xs : List Float) → q ≡ childInput frame (styleIn r xs) item) ⌝ }
 {
-    let plain = frames::is_plain_block(r);
-    let basis = f.heightBasis;
-    let width = asked_width(f, i);
+    let plain = frames::is_in_same_bfc(r);
+    let basis = frame.heightBasis;
+    let width = asked_width(frame, item);
     let known = OptionSize {
         width: OptionF32::Some(width),
-        height: asked_height(i),
+        height: asked_height(item),
     };
     LayoutInput {
         known,
-        parent: OptionF32::Some(inner_width(f)),
+        parent: OptionF32::Some(container_inner_width(frame)),
         basis,
         definiteHeight: true,
         available: AvailableSpace::MaxContent,
@@ -148,29 +148,29 @@ fn child_input(f: Frame, r: Reader, i: BlockItem) -> LayoutInput
 }
 
 // What is held of an item.
-fn footing_of(i: BlockItem) -> Footing
-    ensures { λ r. ⌜ r ≡ footingOf i ⌝ }
+fn footing_of(item: BlockItem) -> Footing
+    ensures { λ r. ⌜ r ≡ footingOf item ⌝ }
 {
-    let margin = i.margin;
-    let offset = i.offset;
+    let margin = item.margin;
+    let offset = item.offset;
     Footing {
         margin,
-        left: i.left,
-        right: i.right,
+        left: item.left,
+        right: item.right,
         offset,
     }
 }
 
 // The plan of the first node here, a child with this frame around it. Its style and its item end with this call.
-pub fn plan_at(words: &[u32], numbers: &[f32], base: usize, f: Frame) -> Plan
+pub fn plan_at(words: &[u32], numbers: &[f32], base: usize, frame: Frame) -> Plan
     requires { ⌜ (4 ≤ length (now words)) × (base < planeOf (now numbers)) ⌝ }
-    ensures input { λ r. ⌜ r .input ≡ questionTo f (styleAt (now (words .entry)) 0 (now (numbers .entry)) base) ⌝ }
-    ensures footing { λ r. ⌜ r .footing ≡ footingOf (itemOf f (styleAt (now (words .entry)) 0 (now (numbers .entry)) base)) ⌝ }
+    ensures input { λ r. ⌜ r .input ≡ questionTo frame (styleAt (now (words .entry)) 0 (now (numbers .entry)) base) ⌝ }
+    ensures footing { λ r. ⌜ r .footing ≡ footingOf (itemOf frame (styleAt (now (words .entry)) 0 (now (numbers .entry)) base)) ⌝ }
 {
     let r = reader::reader_at(words, numbers, base);
-    let i = item_of(f, r, numbers);
+    let i = item_of(frame, r, numbers);
     Plan {
-        input: child_input(f, r, i),
+        input: child_input(frame, r, i),
         footing: footing_of(i),
     }
 }

@@ -34,17 +34,17 @@ pub struct Plan {
     pub footing: Footing,
 }
 
-pub fn inner_width(f: Frame) -> f32
-    ensures { λ r. ⌜ r ≡ innerWidth f ⌝ }
+pub fn container_inner_width(frame: Frame) -> f32
+    ensures { λ r. ⌜ r ≡ innerWidth frame ⌝ }
 {
-    let inset = f.inset;
-    f.width - inset.horizontal_axis_sum()
+    let inset = frame.inset;
+    frame.width - inset.horizontal_axis_sum()
 }
 
-pub fn start_of(f: Frame) -> Cursor
-    ensures { λ r. ⌜ r ≡ startOf f ⌝ }
+pub fn start_of(frame: Frame) -> Cursor
+    ensures { λ r. ⌜ r ≡ startOf frame ⌝ }
 {
-    let inset = f.inset;
+    let inset = frame.inset;
     Cursor {
         y: inset.top,
         strut: CollapsibleMarginSet::zero(),
@@ -57,110 +57,122 @@ pub fn start_of(f: Frame) -> Cursor
     }
 }
 
-fn top_margins(i: Footing, o: LayoutOutput) -> CollapsibleMarginSet
-    ensures { λ r. ⌜ ((z : Sizing) → r ≡ topMargins (itemWith z i) o) ⌝ }
+fn top_margin_set(footing: Footing, answer: LayoutOutput) -> CollapsibleMarginSet
+    ensures { λ r. ⌜ ((z : Sizing) → r ≡ topMargins (itemWith z footing) answer) ⌝ }
 {
-    let m = i.margin;
-    let t = o.top;
+    let m = footing.margin;
+    let t = answer.top;
     t.collapse_with_margin(m.top)
 }
 
-fn bottom_margins(i: Footing, o: LayoutOutput) -> CollapsibleMarginSet
-    ensures { λ r. ⌜ ((z : Sizing) → r ≡ bottomMargins (itemWith z i) o) ⌝ }
+fn bottom_margin_set(footing: Footing, answer: LayoutOutput) -> CollapsibleMarginSet
+    ensures { λ r. ⌜ ((z : Sizing) → r ≡ bottomMargins (itemWith z footing) answer) ⌝ }
 {
-    let m = i.margin;
-    let b = o.bottom;
+    let m = footing.margin;
+    let b = answer.bottom;
     b.collapse_with_margin(m.bottom)
 }
 
-pub fn at_top(f: Frame, c: Cursor) -> bool
-    ensures { λ r. ⌜ r ≡ atTop f c ⌝ }
+pub fn at_top(frame: Frame, cursor: Cursor) -> bool
+    ensures { λ r. ⌜ r ≡ atTop frame cursor ⌝ }
 {
-    if c.first { f.ownStart } else { false }
+    if cursor.first { frame.ownStart } else { false }
 }
 
-fn gap_of(f: Frame, c: Cursor, t: CollapsibleMarginSet) -> f32
-    ensures { λ r. ⌜ r ≡ gapOf f c t ⌝ }
+fn gap_of(frame: Frame, cursor: Cursor, t: CollapsibleMarginSet) -> f32
+    ensures { λ r. ⌜ r ≡ gapOf frame cursor t ⌝ }
 {
-    let strut = c.strut;
-    util::pick(at_top(f, c), 0.0, strut.collapse_with_set(t).resolve())
+    let strut = cursor.strut;
+    util::pick(
+        at_top(frame, cursor),
+        0.0,
+        strut.collapse_with_set(t).resolve(),
+    )
 }
 
-fn free_of(f: Frame, i: Footing, w: f32) -> f32
-    ensures { λ r. ⌜ ((z : Sizing) → r ≡ freeOf f (itemWith z i) w) ⌝ }
+fn free_x_space(frame: Frame, footing: Footing, w: f32) -> f32
+    ensures { λ r. ⌜ ((z : Sizing) → r ≡ freeOf frame (itemWith z footing) w) ⌝ }
 {
-    let margin = i.margin;
-    let inner = inner_width(f);
+    let margin = footing.margin;
+    let inner = container_inner_width(frame);
     util::f32_max(0.0, (inner - w) - margin.horizontal_axis_sum())
 }
 
-fn share_of(own: bool, other: bool, margin: f32, free: f32) -> f32
+fn x_axis_auto_margin_size(own: bool, other: bool, margin: f32, free: f32) -> f32
     ensures { λ r. ⌜ r ≡ shareOf own other margin free ⌝ }
 {
     util::pick(own, util::pick(other, free / 2.0, free), margin)
 }
 
-fn place_x(f: Frame, i: Footing, w: f32) -> f32
-    ensures { λ r. ⌜ ((z : Sizing) → r ≡ placeX f (itemWith z i) w) ⌝ }
+fn place_x(frame: Frame, footing: Footing, w: f32) -> f32
+    ensures { λ r. ⌜ ((z : Sizing) → r ≡ placeX frame (itemWith z footing) w) ⌝ }
 {
-    let margin = i.margin;
-    let inset = f.inset;
-    let offset = i.offset;
-    let free = free_of(f, i, w);
-    if f.rtl {
-        (((f.width - inset.right) - share_of(i.right, i.left, margin.right, free)) - w) + offset.x
+    let margin = footing.margin;
+    let inset = frame.inset;
+    let offset = footing.offset;
+    let free = free_x_space(frame, footing, w);
+    if frame.rtl {
+        (((frame.width - inset.right)
+            - x_axis_auto_margin_size(footing.right, footing.left, margin.right, free))
+            - w)
+            + offset.x
     } else {
-        (inset.left + share_of(i.left, i.right, margin.left, free)) + offset.x
+        (inset.left + x_axis_auto_margin_size(footing.left, footing.right, margin.left, free))
+            + offset.x
     }
 }
 
-fn place_y(f: Frame, c: Cursor, i: Footing, o: LayoutOutput) -> f32
-    ensures { λ r. ⌜ ((z : Sizing) → r ≡ placeY f c (itemWith z i) o) ⌝ }
+fn place_y(frame: Frame, cursor: Cursor, footing: Footing, answer: LayoutOutput) -> f32
+    ensures { λ r. ⌜ ((z : Sizing) → r ≡ placeY frame cursor (itemWith z footing) answer) ⌝ }
 {
-    let offset = i.offset;
-    let gap = gap_of(f, c, top_margins(i, o));
-    (c.y + gap) + offset.y
+    let offset = footing.offset;
+    let gap = gap_of(frame, cursor, top_margin_set(footing, answer));
+    (cursor.y + gap) + offset.y
 }
 
 // Where a child stands.
-pub fn place_of(f: Frame, c: Cursor, i: Footing, o: LayoutOutput) -> Point
-    ensures { λ r. ⌜ ((z : Sizing) → r ≡ placeOf f c (itemWith z i) o) ⌝ }
+pub fn place_of(frame: Frame, cursor: Cursor, footing: Footing, answer: LayoutOutput) -> Point
+    ensures { λ r. ⌜ ((z : Sizing) → r ≡ placeOf frame cursor (itemWith z footing) answer) ⌝ }
 {
-    let size = o.size;
+    let size = answer.size;
     Point {
-        x: place_x(f, i, size.width),
-        y: place_y(f, c, i, o),
+        x: place_x(frame, footing, size.width),
+        y: place_y(frame, cursor, footing, answer),
     }
 }
 
-fn next_shown(o: Order) -> Order
-    requires { ⌜ o .0 < 4294967295 ⌝ }
-    ensures { λ r. ⌜ r ≡ record { 0 = o .0 + 1 } ⌝ }
+fn next_shown(order: Order) -> Order
+    requires { ⌜ order .0 < 4294967295 ⌝ }
+    ensures { λ r. ⌜ r ≡ record { 0 = order .0 + 1 } ⌝ }
 {
-    Order(o.0 + 1)
+    Order(order.0 + 1)
 }
 
 fn past_through(
-    c: Cursor,
+    cursor: Cursor,
     t: CollapsibleMarginSet,
     b: CollapsibleMarginSet,
     baseline: OptionF32,
 ) -> Cursor
-    requires { ⌜ Counts c ⌝ }
-    ensures { λ r. ⌜ r ≡ pastThrough c t b baseline ⌝ }
+    requires { ⌜ Counts cursor ⌝ }
+    ensures { λ r. ⌜ r ≡ pastThrough cursor t b baseline ⌝ }
 {
-    let strut = c.strut;
-    let top = c.top;
-    let shown = c.shown;
+    let strut = cursor.strut;
+    let top = cursor.top;
+    let shown = cursor.shown;
     Cursor {
-        y: c.y,
+        y: cursor.y,
         strut: strut.collapse_with_set(t).collapse_with_set(b),
-        top: pick_set(c.first, top.collapse_with_set(t).collapse_with_set(b), top),
-        first: c.first,
-        allThrough: c.allThrough,
+        top: pick_set(
+            cursor.first,
+            top.collapse_with_set(t).collapse_with_set(b),
+            top,
+        ),
+        first: cursor.first,
+        allThrough: cursor.allThrough,
         baseline,
         shown: next_shown(shown),
-        count: c.count + 1,
+        count: cursor.count + 1,
     }
 }
 
@@ -171,124 +183,124 @@ fn pick_set(c: bool, a: CollapsibleMarginSet, b: CollapsibleMarginSet) -> Collap
 }
 
 fn past_box(
-    f: Frame,
-    c: Cursor,
+    frame: Frame,
+    cursor: Cursor,
     t: CollapsibleMarginSet,
     b: CollapsibleMarginSet,
     h: f32,
     baseline: OptionF32,
 ) -> Cursor
-    requires { ⌜ Counts c ⌝ }
-    ensures { λ r. ⌜ r ≡ pastBox f c t b h baseline ⌝ }
+    requires { ⌜ Counts cursor ⌝ }
+    ensures { λ r. ⌜ r ≡ pastBox frame cursor t b h baseline ⌝ }
 {
-    let top = c.top;
-    let shown = c.shown;
-    let gap = gap_of(f, c, t);
+    let top = cursor.top;
+    let shown = cursor.shown;
+    let gap = gap_of(frame, cursor, t);
     Cursor {
-        y: (c.y + gap) + h,
+        y: (cursor.y + gap) + h,
         strut: b,
-        top: pick_set(c.first, top.collapse_with_set(t), top),
+        top: pick_set(cursor.first, top.collapse_with_set(t), top),
         first: false,
         allThrough: false,
         baseline,
         shown: next_shown(shown),
-        count: c.count + 1,
+        count: cursor.count + 1,
     }
 }
 
 // A child's baseline in its container: its place is worked out only where it has one.
-fn baseline_at(f: Frame, c: Cursor, i: Footing, o: LayoutOutput) -> OptionF32
-    ensures { λ r. ⌜ ((z : Sizing) → r ≡ atPlace (placeY f c (itemWith z i) o) (o .baseline)) ⌝ }
+fn baseline_at(frame: Frame, cursor: Cursor, footing: Footing, answer: LayoutOutput) -> OptionF32
+    ensures { λ r. ⌜ ((z : Sizing) → r ≡ atPlace (placeY frame cursor (itemWith z footing) answer) (answer .baseline)) ⌝ }
 {
-    let own = o.baseline;
+    let own = answer.baseline;
     match own {
         OptionF32::None => OptionF32::None,
-        OptionF32::Some(b) => OptionF32::Some(place_y(f, c, i, o) + b),
+        OptionF32::Some(b) => OptionF32::Some(place_y(frame, cursor, footing, answer) + b),
     }
 }
 
 // The first baseline past a child.
-fn baseline_past(f: Frame, c: Cursor, i: Footing, o: LayoutOutput) -> OptionF32
-    ensures { λ r. ⌜ ((z : Sizing) → r ≡ baselinePast (c .baseline) (placeY f c (itemWith z i) o) (o .baseline)) ⌝ }
+fn baseline_past(frame: Frame, cursor: Cursor, footing: Footing, answer: LayoutOutput) -> OptionF32
+    ensures { λ r. ⌜ ((z : Sizing) → r ≡ baselinePast (cursor .baseline) (placeY frame cursor (itemWith z footing) answer) (answer .baseline)) ⌝ }
 {
-    let first = c.baseline;
+    let first = cursor.baseline;
     match first {
-        OptionF32::None => baseline_at(f, c, i, o),
+        OptionF32::None => baseline_at(frame, cursor, footing, answer),
         OptionF32::Some(b) => OptionF32::Some(b),
     }
 }
 
 // The cursor past an in-flow child.
-pub fn stepped_past(f: Frame, c: Cursor, i: Footing, o: LayoutOutput) -> Cursor
-    requires { ⌜ Counts c ⌝ }
-    ensures { λ r. ⌜ ((z : Sizing) → r ≡ stepped f c (itemWith z i) o) ⌝ }
+pub fn stepped_past(frame: Frame, cursor: Cursor, footing: Footing, answer: LayoutOutput) -> Cursor
+    requires { ⌜ Counts cursor ⌝ }
+    ensures { λ r. ⌜ ((z : Sizing) → r ≡ stepped frame cursor (itemWith z footing) answer) ⌝ }
 {
-    let size = o.size;
-    let t = top_margins(i, o);
-    let b = bottom_margins(i, o);
-    let baseline = baseline_past(f, c, i, o);
-    if o.through {
-        past_through(c, t, b, baseline)
+    let size = answer.size;
+    let t = top_margin_set(footing, answer);
+    let b = bottom_margin_set(footing, answer);
+    let baseline = baseline_past(frame, cursor, footing, answer);
+    if answer.through {
+        past_through(cursor, t, b, baseline)
     } else {
-        past_box(f, c, t, b, size.height, baseline)
+        past_box(frame, cursor, t, b, size.height, baseline)
     }
 }
 
 // The line of an out-of-flow child.
-pub fn line_of(f: Frame, c: Cursor) -> f32
-    ensures { λ r. ⌜ r ≡ lineOf f c ⌝ }
+pub fn line_of(frame: Frame, cursor: Cursor) -> f32
+    ensures { λ r. ⌜ r ≡ lineOf frame cursor ⌝ }
 {
-    let strut = c.strut;
-    c.y + util::pick(at_top(f, c), 0.0, strut.resolve())
+    let strut = cursor.strut;
+    cursor.y + util::pick(at_top(frame, cursor), 0.0, strut.resolve())
 }
 
 // The inner edges.
-pub fn edges_of(f: Frame) -> Line
-    ensures { λ r. ⌜ r ≡ edgesOf f ⌝ }
+pub fn edges_of(frame: Frame) -> Line
+    ensures { λ r. ⌜ r ≡ edgesOf frame ⌝ }
 {
-    let inset = f.inset;
+    let inset = frame.inset;
     Line {
         start: inset.left,
-        end: f.width - inset.right,
+        end: frame.width - inset.right,
     }
 }
 
-pub fn past_aside(c: Cursor) -> Cursor
-    requires { ⌜ Counts c ⌝ }
-    ensures { λ r. ⌜ r ≡ pastAside c ⌝ }
+pub fn past_aside(cursor: Cursor) -> Cursor
+    requires { ⌜ Counts cursor ⌝ }
+    ensures { λ r. ⌜ r ≡ pastAside cursor ⌝ }
 {
-    let strut = c.strut;
-    let top = c.top;
-    let baseline = c.baseline;
-    let shown = c.shown;
+    let strut = cursor.strut;
+    let top = cursor.top;
+    let baseline = cursor.baseline;
+    let shown = cursor.shown;
     Cursor {
-        y: c.y,
+        y: cursor.y,
         strut,
         top,
-        first: c.first,
-        allThrough: c.allThrough,
+        first: cursor.first,
+        allThrough: cursor.allThrough,
         baseline,
         shown: next_shown(shown),
-        count: c.count + 1,
+        count: cursor.count + 1,
     }
 }
 
-pub fn past_hidden(c: Cursor) -> Cursor
-    requires { ⌜ Counts c ⌝ }
-    ensures { λ r. ⌜ r ≡ pastHidden c ⌝ }
+pub fn past_hidden(cursor: Cursor) -> Cursor
+    requires { ⌜ Counts cursor ⌝ }
+    ensures { λ r. ⌜ r ≡ pastHidden cursor ⌝ }
 {
-    let strut = c.strut;
-    let top = c.top;
-    let baseline = c.baseline;
-    let shown = c.shown;
+    let strut = cursor.strut;
+    let top = cursor.top;
+    let baseline = cursor.baseline;
+    let shown = cursor.shown;
     Cursor {
-        y: c.y,
+        y: cursor.y,
         strut,
         top,
-        first: c.first,
-        allThrough: c.allThrough,
+        first: cursor.first,
+        allThrough: cursor.allThrough,
         baseline,
         shown,
-        count: c.count + 1,
+        count: cursor.count + 1,
     }
 }

@@ -12,6 +12,23 @@ use tree::Order;
 use util::OptionF32;
 use util::OptionSize;
 
+// Bits of a row's second word.
+pub const LAID: u32 = 0;
+
+pub const THROUGH: u32 = 1;
+
+pub const OUT_OF_FLOW: u32 = 2;
+
+pub const HEIGHT_GIVEN: u32 = 3;
+
+pub const PROBED: u32 = 4;
+
+pub const PROBE_HEIGHT_GIVEN: u32 = 7;
+
+pub const BASIS_GIVEN: u32 = 8;
+
+pub const BASELINE_GIVEN: u32 = 9;
+
 // What a caller asks of a page. The parent width is always a number. A known height is definite only where the caller says so.
 pub struct Question {
     pub known: OptionSize,

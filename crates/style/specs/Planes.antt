@@ -1,7 +1,7 @@
 -- Where a number stands: within the 28 planes, and which node's it is. Assumes nothing.
 use mathlib.Core.Path.{_≡_}
-use mathlib.Core.List.{List, []}
-use Prim.Native.Nat.{ℕ, _*_, _%_, _<_, _≤_, zero-le}
+use mathlib.Core.List.{List}
+use Prim.Native.Nat.{ℕ, _*_, _%_, _<_, _≤_}
 use lib.ListN.{getD}
 use lib.Arith.{digits-lt, digits-mod}
 use lib.Ieee.{Float}
@@ -24,7 +24,3 @@ number-in xs i f h = rw (lt-ltb i (planeOf xs) h)
 pub number-past : (xs : List Float) (i f : ℕ) → planeOf xs ≤ i → numberAt xs i f ≡ zeroF
 unfolding numberAt
 number-past xs i f h = rw (le-ltb i (planeOf xs) h)
-
--- with no numbers every number reads as 0
-pub number-none : (i f : ℕ) → numberAt [] i f ≡ zeroF
-number-none i f = number-past [] i f zero-le

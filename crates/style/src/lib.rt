@@ -2,12 +2,11 @@
 mod decode;
 
 ghost use mathlib.Core.Path.{_≡_};
-ghost use Prim.Native.Nat.{ℕ, _+_, _*_, _^_, _<_, _≤_};
+ghost use Prim.Native.Nat.{_+_, _*_, _^_, _<_, _≤_};
 ghost use lib.ListN.{length};
 ghost use Rattle.style.specs.Codes.{codeAt, flagAt, clearFrom, kindOf, positionOf, overflowOf, distributionAt, alignOf, distributed, alignAt, overflowXY, unitOf, lengthOf, ratioOf, baselineOf};
 ghost use Rattle.style.specs.Flow.{positioned, flowBy, flowAt, isLeaf};
-ghost use Rattle.style.specs.Style.{wordAt, planeOf, numberPlace, numberAt, measureAt, styleAt};
-ghost use Rattle.style.specs.Fields.{sizeIn, rectIn};
+ghost use Rattle.style.specs.Style.{wordAt, planeOf, numberPlace, numberAt, lengthAt, measureAt};
 use crate::decode::align_from;
 use crate::decode::distributed;
 use crate::decode::kind_from;
@@ -17,6 +16,78 @@ use length::Length;
 use length::LengthRect;
 use length::LengthSize;
 use util::OptionF32;
+
+// The lent tables: how many words, numbers, row numbers and marks a node has.
+pub const WORDS: usize = 4;
+
+pub const NUMBERS: usize = 28;
+
+pub const ROW: usize = 16;
+
+pub const MARKS: usize = 2;
+
+// Words of a node.
+pub const SIZE: usize = 0;
+
+pub const STYLE: usize = 1;
+
+pub const UNITS: usize = 2;
+
+pub const MORE_UNITS: usize = 3;
+
+// Codes of the style word: two bits at twice the place.
+pub const KIND: u32 = 0;
+
+pub const POSITION: u32 = 2;
+
+pub const OVERFLOW_X: u32 = 3;
+
+pub const OVERFLOW_Y: u32 = 4;
+
+pub const ALIGN: u32 = 5;
+
+// Bits of the style word. From UNUSED on none is set.
+pub const CONTENT_BOX: u32 = 2;
+
+pub const RTL: u32 = 3;
+
+pub const CONTAINED: u32 = 12;
+
+pub const DISTRIBUTION: u32 = 13;
+
+pub const BASELINE: u32 = 16;
+
+pub const SAFE: u32 = 17;
+
+pub const UNUSED: u32 = 18;
+
+// Bits of the two unit words that are in use: 14 units and 8.
+pub const UNIT_BITS: u32 = 28;
+
+pub const MORE_UNIT_BITS: u32 = 16;
+
+// Numbers of a node: 22 lengths, of which the first 14 have their units in the first unit word, and six others.
+pub const MARGIN: usize = 6;
+
+pub const PADDING: usize = 10;
+
+pub const BORDER: usize = 14;
+
+pub const INSET: usize = 18;
+
+pub const LENGTHS: usize = 22;
+
+pub const RATIO: usize = 22;
+
+pub const SCROLLBAR: usize = 23;
+
+pub const LEAST: usize = 24;
+
+pub const MOST: usize = 25;
+
+pub const HEIGHT: usize = 26;
+
+pub const FIRST_BASELINE: usize = 27;
 
 pub enum Kind {
     Block,
@@ -68,6 +139,7 @@ pub struct Measure {
     pub baseline: OptionF32,
 }
 
+// The whole of it. No code builds one: each step reads the part that it asks for, and the definitions speak of the whole.
 pub struct Style {
     pub kind: Kind,
     pub content: bool,
@@ -108,7 +180,7 @@ pub fn flag(w: u32, k: u32) -> bool
 pub fn distribution(w: u32) -> u32
     ensures { λ r. ⌜ r ≡ distributionAt w ⌝ }
 {
-    (w >> 13) & 7
+    (w >> DISTRIBUTION) & 7
 }
 
 // No bit from k on is set.
@@ -153,7 +225,7 @@ pub fn word_in(words: &[u32], i: usize, k: usize) -> u32
     requires { ⌜ i * 4 + k < length (now words) ⌝ }
     ensures { λ r. ⌜ r ≡ wordAt (now (words .entry)) i k ⌝ }
 {
-    words[i * 4 + k]
+    words[i * WORDS + k]
 }
 
 // Word k of node i, and 0 past the end.
@@ -161,8 +233,8 @@ pub fn word(words: &[u32], i: usize, k: usize) -> u32
     requires { ⌜ k < 4 ⌝ }
     ensures { λ r. ⌜ r ≡ wordAt (now (words .entry)) i k ⌝ }
 {
-    if i <= words.len() / 4 {
-        let at = i * 4 + k;
+    if i <= words.len() / WORDS {
+        let at = i * WORDS + k;
         if at < words.len() {
             return words[at];
         }
@@ -170,7 +242,7 @@ pub fn word(words: &[u32], i: usize, k: usize) -> u32
     0
 }
 
-// Where number f of node i stands, in planes of n. Nothing but this and the next function knows the order.
+// Where number f of node i stands, in planes of n. Nothing else knows the order.
 pub fn number_place(n: usize, i: usize, f: usize) -> usize
     requires { ⌜ numberPlace n i f < 2 ^ 64 ⌝ }
     ensures { λ r. ⌜ r ≡ numberPlace n i f ⌝ }
@@ -178,74 +250,53 @@ pub fn number_place(n: usize, i: usize, f: usize) -> usize
     f * n + i
 }
 
-// Where the next number of the same node stands, whichever this one is.
-pub fn next_place(n: usize, at: usize) -> usize
-    requires { ⌜ at + n < 2 ^ 64 ⌝ }
-    ensures { λ r. ⌜ ((i f : ℕ) → at ≡ numberPlace n i f → r ≡ numberPlace n i (f + 1)) ⌝ }
-{
-    at + n
-}
-
-// Number f of node i in planes of n, and 0 past the last node.
+// Number f of node i, one of these nodes, in planes of n.
 pub fn number_in(numbers: &[f32], n: usize, i: usize, f: usize) -> f32
-    requires { ⌜ (n ≡ planeOf (now numbers)) × (f < 28) ⌝ }
+    requires { ⌜ ((n ≡ planeOf (now numbers)) × (i < n)) × (f < 28) ⌝ }
     ensures { λ r. ⌜ r ≡ numberAt (now (numbers .entry)) i f ⌝ }
 {
-    if i < n {
-        let at = number_place(n, i, f);
-        return numbers[at];
-    }
-    0.0
+    let at = number_place(n, i, f);
+    numbers[at]
 }
 
-// Number f of node i, and 0 past the last node.
+// The same of any node, and 0 past the last.
 pub fn number(numbers: &[f32], i: usize, f: usize) -> f32
     requires { ⌜ f < 28 ⌝ }
     ensures { λ r. ⌜ r ≡ numberAt (now (numbers .entry)) i f ⌝ }
 {
-    number_in(numbers, numbers.len() / 28, i, f)
+    let n = numbers.len() / NUMBERS;
+    if i < n {
+        return number_in(numbers, n, i, f);
+    }
+    0.0
 }
 
-// Two lengths of node j, whose units stand from k on in one unit word: a shift and a mask for each.
-fn size_in(units: u32, k: u32, numbers: &[f32], n: usize, j: usize, f: usize) -> LengthSize
-    requires { ⌜ (k < 15) × ((n ≡ planeOf (now numbers)) × (f < 26)) ⌝ }
-    ensures { λ r. ⌜ r ≡ sizeIn units k (now (numbers .entry)) j f ⌝ }
+// Field f of the node at i of the words and at j of the numbers.
+pub fn length_at(words: &[u32], i: usize, numbers: &[f32], j: usize, f: usize) -> Length
+    requires { ⌜ f < 22 ⌝ }
+    ensures { λ r. ⌜ r ≡ lengthAt (now (words .entry)) i (now (numbers .entry)) j f ⌝ }
 {
-    LengthSize {
-        width: length_from(code(units, k), number_in(numbers, n, j, f)),
-        height: length_from(code(units, k + 1), number_in(numbers, n, j, f + 1)),
-    }
-}
-
-// Four lengths likewise.
-fn rect_in(units: u32, k: u32, numbers: &[f32], n: usize, j: usize, f: usize) -> LengthRect
-    requires { ⌜ (k < 13) × ((n ≡ planeOf (now numbers)) × (f < 24)) ⌝ }
-    ensures { λ r. ⌜ r ≡ rectIn units k (now (numbers .entry)) j f ⌝ }
-{
-    LengthRect {
-        top: length_from(code(units, k), number_in(numbers, n, j, f)),
-        right: length_from(code(units, k + 1), number_in(numbers, n, j, f + 1)),
-        bottom: length_from(code(units, k + 2), number_in(numbers, n, j, f + 2)),
-        left: length_from(code(units, k + 3), number_in(numbers, n, j, f + 3)),
-    }
+    let u = word(words, i, UNITS);
+    let v = word(words, i, MORE_UNITS);
+    length_from(unit(u, v, f as u32), number(numbers, j, f))
 }
 
 pub fn kind_of(w: u32) -> Kind
     ensures { λ r. ⌜ r ≡ kindOf (codeAt w 0) ⌝ }
 {
-    kind_from(code(w, 0))
+    kind_from(code(w, KIND))
 }
 
 pub fn position_of(w: u32) -> Position
     ensures { λ r. ⌜ r ≡ positionOf (codeAt w 2) ⌝ }
 {
-    position_from(code(w, 2))
+    position_from(code(w, POSITION))
 }
 
 pub fn align_of(w: u32) -> AlignContent
     ensures { λ r. ⌜ r ≡ alignAt w ⌝ }
 {
-    let plain = align_from(code(w, 5));
+    let plain = align_from(code(w, ALIGN));
     distributed(distribution(w), plain)
 }
 
@@ -253,8 +304,8 @@ pub fn overflow_of(w: u32) -> OverflowXY
     ensures { λ r. ⌜ r ≡ overflowXY w ⌝ }
 {
     OverflowXY {
-        x: overflow_from(code(w, 3)),
-        y: overflow_from(code(w, 4)),
+        x: overflow_from(code(w, OVERFLOW_X)),
+        y: overflow_from(code(w, OVERFLOW_Y)),
     }
 }
 
@@ -262,62 +313,24 @@ pub fn overflow_of(w: u32) -> OverflowXY
 fn baseline_of(w: u32, x: f32) -> OptionF32
     ensures { λ r. ⌜ r ≡ baselineOf w x ⌝ }
 {
-    if flag(w, 16) {
-        if !flag(w, 12) {
+    if flag(w, BASELINE) {
+        if !flag(w, CONTAINED) {
             return OptionF32::Some(x);
         }
     }
     OptionF32::None
 }
 
-// The table of the node at i of the words and at j of the numbers, in planes of n.
-fn measure_in(words: &[u32], i: usize, numbers: &[f32], n: usize, j: usize) -> Measure
-    requires { ⌜ n ≡ planeOf (now numbers) ⌝ }
-    ensures { λ r. ⌜ r ≡ measureAt (now (words .entry)) i (now (numbers .entry)) j ⌝ }
-{
-    let w = word(words, i, 1);
-    Measure {
-        least: number_in(numbers, n, j, 24),
-        most: number_in(numbers, n, j, 25),
-        height: number_in(numbers, n, j, 26),
-        baseline: baseline_of(w, number_in(numbers, n, j, 27)),
-    }
-}
-
-// A leaf's table alone.
+// A leaf's table: of the node at i of the words and at j of the numbers.
 pub fn measure_at(words: &[u32], i: usize, numbers: &[f32], j: usize) -> Measure
     ensures { λ r. ⌜ r ≡ measureAt (now (words .entry)) i (now (numbers .entry)) j ⌝ }
 {
-    measure_in(words, i, numbers, numbers.len() / 28, j)
-}
-
-// The style of the node at i of the words and at j of the numbers.
-pub fn style_at(words: &[u32], i: usize, numbers: &[f32], j: usize) -> Style
-    ensures { λ r. ⌜ r ≡ styleAt (now (words .entry)) i (now (numbers .entry)) j ⌝ }
-{
-    let w = word(words, i, 1);
-    let u = word(words, i, 2);
-    let v = word(words, i, 3);
-    let n = numbers.len() / 28;
-    Style {
-        kind: kind_of(w),
-        content: flag(w, 2),
-        rtl: flag(w, 3),
-        position: position_of(w),
-        overflow: overflow_of(w),
-        align: align_of(w),
-        safe: flag(w, 17),
-        contained: flag(w, 12),
-        size: size_in(u, 0, numbers, n, j, 0),
-        min: size_in(u, 2, numbers, n, j, 2),
-        max: size_in(u, 4, numbers, n, j, 4),
-        margin: rect_in(u, 6, numbers, n, j, 6),
-        padding: rect_in(u, 10, numbers, n, j, 10),
-        border: rect_in(v, 0, numbers, n, j, 14),
-        inset: rect_in(v, 4, numbers, n, j, 18),
-        ratio: ratio_from(number_in(numbers, n, j, 22)),
-        scrollbar: number_in(numbers, n, j, 23),
-        measure: measure_in(words, i, numbers, n, j),
+    let w = word(words, i, STYLE);
+    Measure {
+        least: number(numbers, j, LEAST),
+        most: number(numbers, j, MOST),
+        height: number(numbers, j, HEIGHT),
+        baseline: baseline_of(w, number(numbers, j, FIRST_BASELINE)),
     }
 }
 

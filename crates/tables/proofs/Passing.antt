@@ -1,6 +1,6 @@
 -- What it says of the tables that a test passes, or that all of them do.
 use mathlib.Core.Path.{_≡_, refl}
-use mathlib.Core.Bool.{Bool, true, false, not}
+use mathlib.Core.Bool.{Bool, true, false, not, _||_}
 use mathlib.Core.List.{List}
 use Prim.Native.Nat.{ℕ, _*_, _<_, _≤_}
 use native.Mathlib.Omega.{arith}
@@ -11,15 +11,16 @@ use borrow.Author.Tests.{ltb-false, eqb-false, eqb-true, not-false}
 use Rattle.limits.specs.Bools.{or-left, or-right}
 use Rattle.steps.specs.Scan.{lowest}
 use Rattle.steps.specs.Page.{nodesIn}
-use Rattle.steps.specs.Noes.{badTables, badTree, badStyle, badNumbers, badQuestion, refuseIf, andThen, atFault, no2, no3, no4, pageTested}
+use Rattle.steps.specs.Noes.{badTables, badRows, badTree, badStyle, badNumbers, badQuestion, refuseIf, andThen, atFault, no2, no3, no4, no5, pageTested, layoutTested}
 use Rattle.steps.specs.declared.LayoutInput.{LayoutInput}
 use Rattle.steps.specs.declared.Answer.{Answer}
-use Rattle.steps.specs.declared.Answer.the-variants.{Tree, Codes, Numbers}
+use Rattle.steps.specs.declared.Answer.the-variants.{Lengths, Tree, Codes, Numbers}
 use Rattle.steps.specs.declared.Tested.{Tested}
 use Rattle.steps.specs.declared.Tested.the-variants.{Pass, Refuse}
 use Rattle.steps.specs.declared.Found.{Found}
 use Rattle.steps.specs.declared.Found.the-variants.{Nowhere, At}
 use Rattle.tables.specs.TreeCheck.{GoodTable}
+use Rattle.tables.specs.Early.{earlyTested}
 
 pub no-pass : {A : Type 0} {a : Answer} → Refuse a ≡ Pass → A
 no-pass e =
@@ -88,3 +89,22 @@ pub good-table : (ws : List ℕ) (xs : List Float) (q : LayoutInput) → badTabl
 good-table ws xs q e p =
     let s = sized ws xs e in
     record { some = s .some; few = s .few; sound = page-passes ws xs q p .tree }
+
+-- ---- 1 to 4, and then 5
+pub then-then : (a b c : Tested) → andThen a (andThen b c) ≡ andThen (andThen a b) c
+unfolding andThen
+then-then Pass b c = refl
+then-then (Refuse x) b c = refl
+
+module _ (ws : List ℕ) (xs rs : List Float) (ms : List ℕ) where
+  pub early-then : (cw : List ℕ) (cx : List Float) (q : LayoutInput) → layoutTested ws xs rs ms cw cx q ≡ andThen (earlyTested ws xs rs ms q) (no5 ws xs cw cx)
+  unfolding layoutTested earlyTested
+  early-then cw cx q = then-then _ _ _
+
+  pub early-sized : (q : LayoutInput) → earlyTested ws xs rs ms q ≡ Pass → badTables ws xs ≡ false
+  unfolding earlyTested
+  early-sized q e = or-left (badTables ws xs) _ (if-pass (badTables ws xs || badRows ws rs ms) Lengths (then-pass-1 (refuseIf (badTables ws xs || badRows ws rs ms) Lengths) _ e))
+
+  pub early-good : (q : LayoutInput) → earlyTested ws xs rs ms q ≡ Pass → GoodTable ws
+  unfolding earlyTested
+  early-good q e = good-table ws xs q (early-sized q e) (then-pass-2 (refuseIf (badTables ws xs || badRows ws rs ms) Lengths) _ e)

@@ -3,3 +3,4 @@ pub mod Walk
 pub mod Refusals
 pub mod Leaves
 pub mod Ancestors
+pub mod Early

@@ -8,11 +8,17 @@ use steps::Answer;
 use steps::Spot;
 use steps::Tested;
 
-// 6: how many of the edits are looked at.
+// 6: how many edits there may be.
+const MAX_EDITS: usize = 64;
+
+// 6: the place of a list that is longer.
+const OVER: u32 = MAX_EDITS as u32;
+
+// 6: how many of them are looked at.
 fn looked_at(n: usize) -> usize
     ensures { λ r. ⌜ r ≡ min 64 n ⌝ }
 {
-    if n < 64 { n } else { 64 }
+    if n < MAX_EDITS { n } else { MAX_EDITS }
 }
 
 // 6: the first of them that names no node.
@@ -37,8 +43,8 @@ pub(crate) fn edits_tested(edits: &[u32], n: usize) -> Tested
     if let Spot::At(k) = first_bad_edit(edits, n) {
         return Tested::Refuse(Answer::Edits(k));
     }
-    if 64 < edits.len() {
-        return Tested::Refuse(Answer::Edits(64));
+    if MAX_EDITS < edits.len() {
+        return Tested::Refuse(Answer::Edits(OVER));
     }
     Tested::Pass
 }

@@ -7,12 +7,15 @@ ghost use Prim.Native.Nat.{_≤_};
 ghost use Rattle.style.specs.Style.{planeOf};
 ghost use Rattle.steps.specs.Page.{nodesIn};
 ghost use Rattle.tables.specs.TreeCheck.{GoodTable};
-ghost use Rattle.steps.specs.Noes.{badTables, badRows, no2, no3, no7, pageTested, layoutTested, relayoutTested, sizeTested};
+ghost use Rattle.steps.specs.Noes.{badTables, badRows, badCodes, no2, no3By, no3, no7, pageTested, layoutTested, relayoutTested, sizeTested};
+ghost use Rattle.tables.specs.Early.{earlyTested};
 ghost use Rattle.tables.specs.Walk.{RoomTested};
 use crate::edits::edits_tested;
 use crate::needed::count_needed;
 use crate::needed::records_in;
+use codes::first_bad_codes;
 use codes::first_bad_style;
+use lent::word_at;
 use numbers::numbers_tested;
 use shape::check_tree;
 use steps::Answer;
@@ -20,23 +23,22 @@ use steps::Found;
 use steps::LayoutInput;
 use steps::Tested;
 use style::flag;
-use style::word;
 
 // 1: no node, over 1,024, or not 4 words and 28 numbers for each.
 fn bad_tables(words: &[u32], numbers: &[f32]) -> bool
     ensures { λ r. ⌜ r ≡ badTables (now (words .entry)) (now (numbers .entry)) ⌝ }
 {
-    let n = words.len() / 4;
+    let n = words.len() / style::WORDS;
     if n == 0 {
         return true;
     }
-    if 1024 < n {
+    if tree::MAX_NODES < n {
         return true;
     }
-    if words.len() != 4 * n {
+    if words.len() != style::WORDS * n {
         return true;
     }
-    numbers.len() != 28 * n
+    numbers.len() != style::NUMBERS * n
 }
 
 // 1: not 16 row numbers and 2 row words for each node.
@@ -44,11 +46,11 @@ pub fn bad_rows(words: &[u32], rows: &[f32], marks: &[u32]) -> bool
     requires { ⌜ nodesIn (now words) ≤ 1024 ⌝ }
     ensures { λ r. ⌜ r ≡ badRows (now (words .entry)) (now (rows .entry)) (now (marks .entry)) ⌝ }
 {
-    let n = words.len() / 4;
-    if rows.len() != 16 * n {
+    let n = words.len() / style::WORDS;
+    if rows.len() != style::ROW * n {
         return true;
     }
-    marks.len() != 2 * n
+    marks.len() != style::MARKS * n
 }
 
 // 2.
@@ -61,12 +63,23 @@ pub fn tree_tested(words: &[u32]) -> Tested
     }
 }
 
-// 3. Where no numbers are lent, every ratio reads as 0.
-pub fn codes_tested(words: &[u32], numbers: &[f32]) -> Tested
+// 3.
+fn codes_tested(words: &[u32], numbers: &[f32]) -> Tested
     requires { ⌜ nodesIn (now words) ≤ 1024 ⌝ }
     ensures { λ r. ⌜ r ≡ no3 (now (words .entry)) (now (numbers .entry)) ⌝ }
 {
     match first_bad_style(words, numbers) {
+        Found::Nowhere => Tested::Pass,
+        Found::At(i) => Tested::Refuse(Answer::Codes(i)),
+    }
+}
+
+// 3 by the words alone: a ratio beside a fraction shows in the numbers only.
+pub fn words_tested(words: &[u32]) -> Tested
+    requires { ⌜ nodesIn (now words) ≤ 1024 ⌝ }
+    ensures { λ r. ⌜ r ≡ no3By (badCodes (now (words .entry))) (now (words .entry)) ⌝ }
+{
+    match first_bad_codes(words) {
         Found::Nowhere => Tested::Pass,
         Found::At(i) => Tested::Refuse(Answer::Codes(i)),
     }
@@ -87,7 +100,7 @@ fn room_tested(words: &[u32], pairs: &[u32], triples: &[f32]) -> Tested
 pub fn root_tested(marks: &[u32]) -> Tested
     ensures { λ r. ⌜ r ≡ no7 (now (marks .entry)) ⌝ }
 {
-    if flag(word(marks, 0, 1), 0) {
+    if flag(word_at(marks, 1), steps::LAID) {
         return Tested::Pass;
     }
     Tested::Refuse(Answer::NotLaid)
@@ -107,6 +120,25 @@ fn page_tested(words: &[u32], numbers: &[f32], q: LayoutInput) -> Tested
     numbers_tested(words, numbers, q)
 }
 
+// 1 to 4 of a layout and of a relayout.
+pub fn early_tested(
+    words: &[u32],
+    numbers: &[f32],
+    rows: &[f32],
+    marks: &[u32],
+    q: LayoutInput,
+) -> Tested
+    ensures { λ r. ⌜ r ≡ earlyTested (now (words .entry)) (now (numbers .entry)) (now (rows .entry)) (now (marks .entry)) q ⌝ }
+{
+    if bad_tables(words, numbers) {
+        return Tested::Refuse(Answer::Lengths);
+    }
+    if bad_rows(words, rows, marks) {
+        return Tested::Refuse(Answer::Lengths);
+    }
+    page_tested(words, numbers, q)
+}
+
 // The tests of a layout: 1 to 5.
 pub fn layout_tested(
     words: &[u32],
@@ -119,13 +151,7 @@ pub fn layout_tested(
 ) -> Tested
     ensures { λ r. ⌜ r ≡ layoutTested (now (words .entry)) (now (numbers .entry)) (now (rows .entry)) (now (marks .entry)) (now (pairs .entry)) (now (triples .entry)) q ⌝ }
 {
-    if bad_tables(words, numbers) {
-        return Tested::Refuse(Answer::Lengths);
-    }
-    if bad_rows(words, rows, marks) {
-        return Tested::Refuse(Answer::Lengths);
-    }
-    if let Tested::Refuse(a) = page_tested(words, numbers, q) {
+    if let Tested::Refuse(a) = early_tested(words, numbers, rows, marks, q) {
         return Tested::Refuse(a);
     }
     room_tested(words, pairs, triples)
@@ -147,7 +173,7 @@ pub fn relayout_tested(
     if let Tested::Refuse(a) = layout_tested(words, numbers, rows, marks, pairs, triples, q) {
         return Tested::Refuse(a);
     }
-    if let Tested::Refuse(a) = edits_tested(edits, words.len() / 4) {
+    if let Tested::Refuse(a) = edits_tested(edits, words.len() / style::WORDS) {
         return Tested::Refuse(a);
     }
     root_tested(marks)

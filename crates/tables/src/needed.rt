@@ -34,12 +34,12 @@ pub(crate) fn count_needed(words: &[u32]) -> usize
     requires { ⌜ GoodTable (now words) ⌝ }
     ensures { λ r. ⌜ NeededIn (now (words .entry)) r ⌝ }
 {
-    let n = words.len() / 4;
+    let n = words.len() / style::WORDS;
     let mut i = 1;
     let mut count = 0;
     while i < n {
-        let flow = flow_at(word_in(words, i, 1));
-        let size = word_in(words, i, 0) as usize;
+        let flow = flow_at(word_in(words, i, style::STYLE));
+        let size = word_in(words, i, style::SIZE) as usize;
         count += counted(flow);
         i += passed(flow, size);
     }

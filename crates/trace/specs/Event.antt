@@ -47,7 +47,7 @@ layout = 108 ∷ 97 ∷ 121 ∷ 111 ∷ 117 ∷ 116 ∷ []
 unfoldable pub numberEvent : ℕ → Value → NumLine → EventLine
 numberEvent n value.Bad x = Bad
 numberEvent n (value.Is i) nums.Bad = Bad
-numberEvent n (value.Is i) (nums.Is x) = cond (ltb i n) (Is (Number (record { node = i; field = x .field; value = x .value }))) Bad
+numberEvent n (value.Is i) (nums.Is x) = cond (ltb i n) (Is (Number (record { node = record { 0 = i }; field = x .field; value = x .value }))) Bad
 
 -- number= and a node, then a field and a bit pattern as num= has them
 unfoldable pub numberText : ℕ → List ℕ → EventLine
@@ -58,7 +58,7 @@ unfoldable pub wordEvent : ℕ → Value → Value → Value → EventLine
 wordEvent n value.Bad k b = Bad
 wordEvent n (value.Is i) value.Bad b = Bad
 wordEvent n (value.Is i) (value.Is k) value.Bad = Bad
-wordEvent n (value.Is i) (value.Is k) (value.Is b) = cond (ltb i n && ltb 0 k) (Is (Word (record { node = i; word = k; bits = b }))) Bad
+wordEvent n (value.Is i) (value.Is k) (value.Is b) = cond (ltb i n && ltb 0 k) (Is (Word (record { node = record { 0 = i }; word = k; bits = b }))) Bad
 
 -- word= and a node, a word up to 3, a bit pattern
 unfoldable pub wordText : ℕ → List ℕ → EventLine

@@ -7,6 +7,7 @@ use lines::NumLine;
 use sheet::NodeNumber;
 use sheet::NodeWord;
 use text::Value;
+use tree::NodeId;
 
 // A number of one of n nodes.
 fn number_event(n: usize, node: Value, x: NumLine) -> EventLine
@@ -21,7 +22,7 @@ fn number_event(n: usize, node: Value, x: NumLine) -> EventLine
                     return EventLine::Bad;
                 }
                 EventLine::Is(Event::Number(NodeNumber {
-                    node,
+                    node: NodeId(node),
                     field: x.field,
                     value: x.value,
                 }))
@@ -57,7 +58,11 @@ fn word_event(n: usize, node: Value, word: Value, bits: Value) -> EventLine
                     if word == 0 {
                         return EventLine::Bad;
                     }
-                    EventLine::Is(Event::Word(NodeWord { node, word, bits }))
+                    EventLine::Is(Event::Word(NodeWord {
+                        node: NodeId(node),
+                        word,
+                        bits,
+                    }))
                 }
             },
         },

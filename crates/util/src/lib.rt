@@ -113,7 +113,7 @@ impl OptionF32 {
         }
     }
 
-    pub fn clamp(self, lo: OptionF32, hi: OptionF32) -> OptionF32
+    pub fn maybe_clamp(self, lo: OptionF32, hi: OptionF32) -> OptionF32
         ensures { λ r. ⌜ r ≡ clampOpt self lo hi ⌝ }
     {
         match self {
@@ -122,7 +122,7 @@ impl OptionF32 {
         }
     }
 
-    pub fn floor(self, x: f32) -> OptionF32
+    pub fn maybe_max(self, x: f32) -> OptionF32
         ensures { λ r. ⌜ r ≡ floorOpt self x ⌝ }
     {
         match self {

@@ -1,9 +1,7 @@
 // Walks over the rows of a run: step M, and what stands below a kept node.
 ghost use mathlib.Core.Path.{_≡_};
 ghost use mathlib.Core.Bool.{_||_};
-ghost use Prim.Native.Nat.{_/_, _%_};
 ghost use Rattle.style.specs.Codes.{flagAt};
-ghost use Rattle.steps.specs.Kept.{laidBits};
 ghost use Rattle.walks.specs.Tables.{IsRows, LoweredRows, IsBelow, KeptBelow, loweredY};
 use geometry::Line;
 use style::Flow;
@@ -12,10 +10,10 @@ use tree::Order;
 fn moves(bits: u32) -> bool
     ensures { λ r. ⌜ r ≡ (flagAt bits 0 || flagAt bits 2) ⌝ }
 {
-    if style::flag(bits, 0) {
+    if style::flag(bits, steps::LAID) {
         return true;
     }
-    style::flag(bits, 2)
+    style::flag(bits, steps::OUT_OF_FLOW)
 }
 
 fn lowered_by(y: f32, bits: u32, shift: f32) -> f32
@@ -30,18 +28,12 @@ pub fn lower(words: &[u32], rows: &mut [f32], marks: &[u32], shift: f32)
     ensures { λ _. ⌜ LoweredRows (now (words .entry)) (now (rows .entry)) (now (marks .entry)) shift (now (rows .exit)) ⌝ }
 {
     let mut a = 0usize;
-    while 4 * a < words.len() {
-        let y = 16 * a + 1;
-        let m = 2 * a + 1;
+    while style::WORDS * a < words.len() {
+        let y = style::ROW * a + 1;
+        let m = style::MARKS * a + 1;
         rows[y] = lowered_by(rows[y], marks[m], shift);
-        a += style::word(words, a, 0) as usize;
+        a += style::word(words, a, style::SIZE) as usize;
     }
-}
-
-fn laid_bits(b: u32) -> u32
-    ensures { λ r. ⌜ r ≡ laidBits b (b / 16 % 16) ⌝ }
-{
-    1 + 2 * (b / 2 % 2) + 8 * (b / 8 % 2) + 16 * (b / 16 % 16) + 256 * (b / 256)
 }
 
 // Below a kept node: kind and position fix bits 0 and 2 and what is zero; the rest stays.
@@ -50,16 +42,16 @@ pub fn keep_below(words: &[u32], rows: &mut [f32], marks: &mut [u32])
     ensures { λ _. ⌜ KeptBelow (now (words .entry)) (now (rows .entry)) (now (marks .entry)) (now (rows .exit)) (now (marks .exit)) ⌝ }
 {
     let mut i = 0usize;
-    while 4 * i < words.len() {
-        let e = i + style::word(words, i, 0) as usize;
-        let i16 = 16 * i;
-        let e16 = 16 * e;
-        let i2 = 2 * i;
-        let e2 = 2 * e;
-        let flow = style::flow_at(style::word(words, i, 1));
+    while style::WORDS * i < words.len() {
+        let e = i + style::word(words, i, style::SIZE) as usize;
+        let i16 = style::ROW * i;
+        let e16 = style::ROW * e;
+        let i2 = style::MARKS * i;
+        let e2 = style::MARKS * e;
+        let flow = style::flow_at(style::word(words, i, style::STYLE));
         match flow {
             Flow::Gone => {
-                let order = marks[i2];
+                let order = Order(marks[i2]);
                 rows::put_hidden(&mut rows[i16..e16], &mut marks[i2..e2], order);
                 i = e;
             }
@@ -74,7 +66,7 @@ pub fn keep_below(words: &[u32], rows: &mut [f32], marks: &mut [u32])
                 i = e;
             }
             Flow::In => {
-                marks[i2 + 1] = laid_bits(marks[i2 + 1]);
+                marks[i2 + 1] = rows::laid_bits(marks[i2 + 1]);
                 i += 1;
             }
         }

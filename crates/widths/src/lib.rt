@@ -1,10 +1,14 @@
 // Step F: what an unknown width wants of the children (the crate's determine_content_based_container_width), and a leaf's width.
 ghost use mathlib.Core.Path.{_≡_};
+ghost use Prim.Native.Nat.{_<_, _≤_};
+ghost use lib.ListN.{length};
+ghost use Rattle.style.specs.Style.{planeOf, styleAt};
 ghost use Rattle.geometry.specs.Geometry.{across};
 ghost use Rattle.reader.specs.Reader.{Reads, styleIn};
 ghost use Rattle.steps.specs.declared.Sizing.{Sizing};
 ghost use Rattle.steps.specs.Width.{sideMargins, outerOf, outerWidth, wantBy, wantSized, wantIn, wantOf, contentWidth, leafWidth};
 ghost use Rattle.steps.specs.Probe.{probeKnown, spaceIn, foundWidth};
+ghost use Rattle.widths.specs.AtOnce.{widthAtOnce};
 use geometry::Rect;
 use length::AvailableSpace;
 use reader::Reader;
@@ -53,8 +57,8 @@ fn want_probe(z: Sizing, margins: f32, a: AvailableSpace) -> Want
     let lo = min.height;
     let hi = max.height;
     Want::Probe(ProbeInput {
-        height: h.clamp(lo, hi),
-        available: a.less(margins),
+        height: h.maybe_clamp(lo, hi),
+        available: a.maybe_sub(margins),
     })
 }
 
@@ -77,7 +81,7 @@ fn want_sized(z: Sizing, margins: f32, a: AvailableSpace) -> Want
     let w = size.width;
     let lo = min.width;
     let hi = max.width;
-    want_by(z, margins, a, w.clamp(lo, hi))
+    want_by(z, margins, a, w.maybe_clamp(lo, hi))
 }
 
 fn want_in(f: Flow, r: Reader, numbers: &[f32], a: AvailableSpace) -> Want
@@ -88,7 +92,7 @@ fn want_in(f: Flow, r: Reader, numbers: &[f32], a: AvailableSpace) -> Want
         Flow::Gone => Want::Nothing,
         Flow::Out => Want::Nothing,
         Flow::In => want_sized(
-            sizing::sizing_of(r, numbers, OptionF32::None),
+            sizing::sizing_without_height_basis(r, numbers, OptionF32::None),
             side_margins(r, numbers, a.into_option()),
             a,
         ),
@@ -127,7 +131,7 @@ pub fn available_inside(
     requires { ⌜ Reads r (now numbers) ⌝ }
     ensures { λ s. ⌜ s ≡ spaceIn (styleIn r (now (numbers .entry))) parent a ⌝ }
 {
-    a.less(sizing::inset_across(r, numbers, parent))
+    a.maybe_sub(sizing::inset_across(r, numbers, parent))
 }
 
 // Step F: the width that the widest child gives.
@@ -135,7 +139,7 @@ pub fn width_from(r: Reader, numbers: &[f32], parent: OptionF32, most: f32) -> f
     requires { ⌜ Reads r (now numbers) ⌝ }
     ensures { λ x. ⌜ x ≡ foundWidth (styleIn r (now (numbers .entry))) parent most ⌝ }
 {
-    let z = sizing::sizing_of(r, numbers, parent);
+    let z = sizing::sizing_without_height_basis(r, numbers, parent);
     let both = z.both;
     content_width(z, sizing::content_box_inset(r, numbers, both), most)
 }
@@ -148,7 +152,7 @@ pub fn probe_known(r: Reader, numbers: &[f32], q: ProbeInput) -> OptionSize
     let height = q.height;
     sizing::known_dimensions(
         reader::ratio(r, numbers),
-        sizing::sizing_of(r, numbers, OptionF32::None),
+        sizing::sizing_without_height_basis(r, numbers, OptionF32::None),
         OptionSize {
             width: OptionF32::None,
             height,
@@ -166,4 +170,19 @@ pub fn leaf_width(m: Measure, a: AvailableSpace) -> f32
         AvailableSpace::MinContent => m.least,
         AvailableSpace::MaxContent => m.most,
     }
+}
+
+// A probe's width without step F below: a leaf's, or one that steps B and D give.
+pub fn width_at_once(words: &[u32], numbers: &[f32], base: usize, q: ProbeInput) -> OptionF32
+    requires { ⌜ (4 ≤ length (now words)) × (base < planeOf (now numbers)) ⌝ }
+    ensures { λ o. ⌜ o ≡ widthAtOnce (styleAt (now (words .entry)) 0 (now (numbers .entry)) base) q ⌝ }
+{
+    if reader::is_leaf(words) {
+        let a = q.available;
+        let w = leaf_width(style::measure_at(words, 0, numbers, base), a);
+        return OptionF32::Some(w);
+    }
+    let r = reader::reader_at(words, numbers, base);
+    let known = probe_known(r, numbers, q);
+    known.width
 }

@@ -1,6 +1,5 @@
-use mathlib.Core.Path.{refl, sym, ap, _∙_}
+use mathlib.Core.Path.{refl, sym, _∙_}
 use denote.Ref.{now}
-use lib.ListN.{length}
 use Rattle.coarse.proofs.Making.{accepted, shown, refused, too-far}
 use borrow.Author.Needs.{needs}
 use Rattle.coarse.proofs.coarse.Statement.{statement}
@@ -12,13 +11,12 @@ coarse-tested-requires c κs = search needs
 enum-told : tie.Need-enum-told
 enum-told c = search needs
 
-walk-requires : tie.Need-walk-requires
-walk-requires c κs =
-    let at-tested = c .before .before .before .before in
+put-boxes-requires : tie.Need-put-boxes-requires
+put-boxes-requires c κs =
+    let at-tested = c .before .before .before in
     let a = at-tested .before .before .before .before .before .args in
-    let e = sym (at-tested .coarse-tested .ensures .0) ∙ c .before .enum-told .given .1 in
-    let l = accepted (now (a .words)) (now (a .rows)) (now (a .marks)) (now (a .out)) e in
-    (l .few, ((refl, l .tree), ap length (at-tested .coarse-tested .ensures .1) ∙ l .long))
+    let l = accepted (now (a .words)) (now (a .rows)) (now (a .marks)) (now (a .out)) (sym (at-tested .coarse-tested .ensures) ∙ c .before .enum-told .given .1) in
+    (l .few, ((refl, l .tree), l .long))
 
 enum-known-a : tie.Need-enum-known-a
 enum-known-a c = search needs
@@ -32,27 +30,27 @@ same-length c = search needs
 returns : tie.Need-returns
 returns c =
     let at-shown = c .before .before .before in
-    let at-tested = at-shown .before .before .before in
+    let at-tested = at-shown .before .before in
     let a = at-tested .before .before .before .before .before .args in
-    shown (now (a .words)) (now (a .rows)) (now (a .marks)) (now (a .out)) (sym (at-tested .coarse-tested .ensures .0) ∙ at-shown .enum-told .given .1) _ (c .before .walk .ensures .out-is)
+    shown (now (a .words)) (now (a .rows)) (now (a .marks)) (now (a .out)) (sym (at-tested .coarse-tested .ensures) ∙ at-shown .enum-told .given .1) _ (c .before .put-boxes .ensures)
 
 same-length-2 : tie.Need-same-length-2
 same-length-2 c = search needs
 
 returns-2 : tie.Need-returns-2
 returns-2 c =
-    let at-tested = c .before .before .before .before in
+    let at-tested = c .before .before .before in
     let a = at-tested .before .before .before .before .before .args in
-    rw (at-tested .coarse-tested .ensures .1) (refused (now (a .words)) (now (a .rows)) (now (a .marks)) (now (a .out)) _ (sym (at-tested .coarse-tested .ensures .0) ∙ c .before .a .given .1))
+    refused (now (a .words)) (now (a .rows)) (now (a .marks)) (now (a .out)) _ (sym (at-tested .coarse-tested .ensures) ∙ c .before .a .given .1)
 
 same-length-3 : tie.Need-same-length-3
 same-length-3 c = search needs
 
 returns-3 : tie.Need-returns-3
 returns-3 c =
-    let at-tested = c .before .before .before .before in
+    let at-tested = c .before .before .before in
     let a = at-tested .before .before .before .before .before .args in
-    rw (at-tested .coarse-tested .ensures .1) (too-far (now (a .words)) (now (a .rows)) (now (a .marks)) (now (a .out)) _ (sym (at-tested .coarse-tested .ensures .0) ∙ c .before .a2 .given .1))
+    too-far (now (a .words)) (now (a .rows)) (now (a .marks)) (now (a .out)) _ (sym (at-tested .coarse-tested .ensures) ∙ c .before .a2 .given .1)
 
 pub coarse-spec : {M : Type 1} → statement M
 coarse-spec =
@@ -60,7 +58,7 @@ coarse-spec =
     (tie.spec
     coarse-tested-requires
     enum-told
-    walk-requires
+    put-boxes-requires
     enum-known-a
     enum-known-a-2
     same-length

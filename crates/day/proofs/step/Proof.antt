@@ -2,6 +2,7 @@ use mathlib.Core.Path.{_≡_, refl, sym, _∙_, ap}
 use denote.Ref.{now}
 use Rattle.sheet.specs.Sheet.{Sheet}
 use Rattle.day.specs.Day.{day, eventResult, editEvent}
+use Rattle.day.proofs.EventLaws.{told}
 use borrow.Author.Needs.{needs}
 use Rattle.day.proofs.step.Statement.{statement}
 use Rattle.day.proofs.step.Tie as tie
@@ -65,7 +66,7 @@ same-length-3 c = search needs
 returns : tie.Need-returns
 unfolding eventResult editEvent
 returns c =
-    rw (c .before .before .before .before .before .before .before .before .before .before .e .given .1, c .done .ensures) (let a = c .before .before .before .before .before .before .before .before .before .before .before .before .before .before .before .before .before .before .before .before .args in ap (λ (p : Sheet). editEvent p (a .s .question) (day (a .s) (now (a .words)) (now (a .numbers)) (now (a .rows)) (now (a .marks)) (now (a .pairs)) (now (a .triples)) (now (a .list)))) (c .before .before .before .before .before .edit-number .ensures))
+    told (rw (c .before .before .before .before .before .before .before .before .before .before .e .given .1, c .done .ensures) (let a = c .before .before .before .before .before .before .before .before .before .before .before .before .before .before .before .before .before .before .before .before .args in ap (λ (p : Sheet). editEvent p (a .s .question) (day (a .s) (now (a .words)) (now (a .numbers)) (now (a .rows)) (now (a .marks)) (now (a .pairs)) (now (a .triples)) (now (a .list)))) (c .before .before .before .before .before .edit-number .ensures)))
 
 same-length-4 : tie.Need-same-length-4
 same-length-4 c = search needs
@@ -76,11 +77,12 @@ same-length-5 c = search needs
 returns-2 : tie.Need-returns-2
 unfolding eventResult editEvent
 returns-2 c =
-    rw (c .before .before .before .before .before .before .before .before .before .e2 .given .1, c .done2 .ensures) (let a = c .before .before .before .before .before .before .before .before .before .before .before .before .before .before .before .before .before .before .before .args in ap (λ (p : Sheet). editEvent p (a .s .question) (day (a .s) (now (a .words)) (now (a .numbers)) (now (a .rows)) (now (a .marks)) (now (a .pairs)) (now (a .triples)) (now (a .list)))) (c .before .before .before .before .before .edit-word .ensures (now (a .numbers))))
+    told (rw (c .before .before .before .before .before .before .before .before .before .e2 .given .1, c .done2 .ensures) (let a = c .before .before .before .before .before .before .before .before .before .before .before .before .before .before .before .before .before .before .before .args in ap (λ (p : Sheet). editEvent p (a .s .question) (day (a .s) (now (a .words)) (now (a .numbers)) (now (a .rows)) (now (a .marks)) (now (a .pairs)) (now (a .triples)) (now (a .list)))) (c .before .before .before .before .before .edit-word .ensures (now (a .numbers)))))
 
 returns-3 : tie.Need-returns-3
 unfolding eventResult editEvent
-returns-3 c = rw (c .before .before .before .e3 .given .1, c .done3 .ensures, c .before .ask-anew .ensures)
+returns-3 c =
+    told (rw (c .before .before .before .e3 .given .1, c .done3 .ensures, c .before .ask-anew .ensures))
 
 same-length-6 : tie.Need-same-length-6
 same-length-6 c = search needs
@@ -106,7 +108,7 @@ same-length-12 c = search needs
 returns-4 : tie.Need-returns-4
 unfolding eventResult
 returns-4 c =
-    rw (c .before .before .before .before .before .before .before .before .before .before .before .before .before .before .before .before .enum-told .given .1) (c .before .before .before .before .before .before .before .before .relay .ensures)
+    told (rw (c .before .before .before .before .before .before .before .before .before .before .before .before .before .before .before .before .enum-told .given .1) (c .before .before .before .before .before .before .before .before .relay .ensures))
 
 same-length-13 : tie.Need-same-length-13
 same-length-13 c = search needs
@@ -129,7 +131,7 @@ same-length-18 c = search needs
 returns-5 : tie.Need-returns-5
 unfolding eventResult
 returns-5 c =
-    rw (c .before .before .before .before .before .before .before .before .before .before .before .before .before .before .before .enum-told2 .given .1) (c .before .before .before .before .before .before .before .before .lay .ensures (now (c .before .before .before .before .before .before .before .before .before .before .before .before .before .before .before .before .before .before .before .before .before .before .before .before .before .args .list)))
+    told (rw (c .before .before .before .before .before .before .before .before .before .before .before .before .before .before .before .enum-told2 .given .1) (c .before .before .before .before .before .before .before .before .lay .ensures (now (c .before .before .before .before .before .before .before .before .before .before .before .before .before .before .before .before .before .before .before .before .before .before .before .before .before .args .list))))
 
 pub step-spec : {M : Type 1} → statement M
 step-spec =

@@ -1,7 +1,7 @@
 use mathlib.Core.Path.{sym, _∙_}
 use Rattle.steps.specs.Noes.{andThen}
 use Rattle.edges.specs.Tests.{rowsTested, laidTested}
-use Rattle.edges.proofs.Words.{worded, words-alone}
+use Rattle.edges.proofs.Words.{worded}
 use borrow.Author.Needs.{needs}
 use Rattle.edges.proofs.rows_tested.Statement.{statement}
 use Rattle.edges.proofs.rows_tested.Tie as tie
@@ -28,23 +28,31 @@ enum-known-a c = search needs
 
 returns-3 : tie.Need-returns-3
 unfolding rowsTested laidTested andThen
-returns-3 c = rw (← c .before .before .before .tree-tested .ensures, ← c .before .before .before .before .before .bad-rows .ensures, ← c .before .before .before .before .before .before .before .bad-words .ensures, c .before .a .given .1, c .before .before .before .before .if2 .left, c .before .before .before .before .before .before .if1 .left)
+returns-3 c =
+    let at-tree = c .before .before .before in
+    let at-rows = at-tree .before .before in
+    let at-words = at-rows .before .before in
+    rw (← at-tree .tree-tested .ensures, ← at-rows .bad-rows .ensures, ← at-words .bad-words .ensures, c .before .a .given .1, at-tree .before .if2 .left, at-rows .before .if1 .left)
 
 enum-told : tie.Need-enum-told
 enum-told c = search needs
 
-slice-aggregate-codes-tested : tie.Need-slice-aggregate-codes-tested
-slice-aggregate-codes-tested c = search needs
-
-codes-tested-requires : tie.Need-codes-tested-requires
-codes-tested-requires c κs = worded _ (sym (c .before .before .before .before .before .before .before .bad-words .ensures) ∙ c .before .before .before .before .before .before .if1 .left) .few
+words-tested-requires : tie.Need-words-tested-requires
+words-tested-requires c κs =
+    let at-words = c .before .before .before .before .before .before in
+    worded _ (sym (at-words .bad-words .ensures) ∙ c .before .before .before .before .before .if1 .left) .few
 
 enum-known-a-2 : tie.Need-enum-known-a-2
 enum-known-a-2 c = search needs
 
 returns-4 : tie.Need-returns-4
 unfolding rowsTested laidTested andThen
-returns-4 c = rw (← (c .before .before .before .codes-tested .ensures ∙ words-alone _), ← c .before .before .before .before .before .before .before .tree-tested .ensures, ← c .before .before .before .before .before .before .before .before .before .bad-rows .ensures, ← c .before .before .before .before .before .before .before .before .before .before .before .bad-words .ensures, c .before .a2 .given .1, c .before .before .before .before .before .enum-told .given .1, c .before .before .before .before .before .before .before .before .if2 .left, c .before .before .before .before .before .before .before .before .before .before .if1 .left)
+returns-4 c =
+    let at-codes = c .before .before .before in
+    let at-tree = at-codes .before .before .before in
+    let at-rows = at-tree .before .before in
+    let at-words = at-rows .before .before in
+    rw (← at-codes .words-tested .ensures, ← at-tree .tree-tested .ensures, ← at-rows .bad-rows .ensures, ← at-words .bad-words .ensures, c .before .a2 .given .1, at-codes .before .enum-told .given .1, at-tree .before .if2 .left, at-rows .before .if1 .left)
 
 enum-told-2 : tie.Need-enum-told-2
 enum-told-2 c = search needs
@@ -54,7 +62,12 @@ root-tested-requires c κs = search needs
 
 returns-5 : tie.Need-returns-5
 unfolding rowsTested laidTested andThen
-returns-5 c = rw (c .root-tested .ensures, ← (c .before .before .before .codes-tested .ensures ∙ words-alone _), ← c .before .before .before .before .before .before .before .tree-tested .ensures, ← c .before .before .before .before .before .before .before .before .before .bad-rows .ensures, ← c .before .before .before .before .before .before .before .before .before .before .before .bad-words .ensures, c .before .enum-told2 .given .1, c .before .before .before .before .before .enum-told .given .1, c .before .before .before .before .before .before .before .before .if2 .left, c .before .before .before .before .before .before .before .before .before .before .if1 .left)
+returns-5 c =
+    let at-codes = c .before .before .before in
+    let at-tree = at-codes .before .before .before in
+    let at-rows = at-tree .before .before in
+    let at-words = at-rows .before .before in
+    rw (c .root-tested .ensures, ← at-codes .words-tested .ensures, ← at-tree .tree-tested .ensures, ← at-rows .bad-rows .ensures, ← at-words .bad-words .ensures, c .before .enum-told2 .given .1, at-codes .before .enum-told .given .1, at-tree .before .if2 .left, at-rows .before .if1 .left)
 
 pub rows-tested-spec : {M : Type 1} → statement M
 rows-tested-spec =
@@ -68,8 +81,7 @@ rows-tested-spec =
     enum-known-a
     returns-3
     enum-told
-    slice-aggregate-codes-tested
-    codes-tested-requires
+    words-tested-requires
     enum-known-a-2
     returns-4
     enum-told-2

@@ -16,7 +16,7 @@ packed-profile-requires : tie.Need-packed-profile-requires
 packed-profile-requires c κs = search needs
 
 returns : tie.Need-returns
-returns c = said (c .before .in-profile .ensures ∙ ap (yesOrNo _ _) (ap rootInput (c .before .before .question .ensures))) (c .packed-profile .ensures)
+returns c = said (c .before .in-profile .ensures .answer-is ∙ ap (yesOrNo _ _) (ap rootInput (c .before .before .question .ensures))) (c .packed-profile .ensures)
 
 pub mearrasot-in-profile-spec : {M : Type 1} → statement M
 mearrasot-in-profile-spec =

@@ -29,15 +29,15 @@ halves-requires-3 c κs = search needs
 
 returns : tie.Need-returns
 unfolding scrollPaper foundIn
-returns c = scrolled (sym (c .before .before .before .before .before .scroll .ensures) ∙ c .before .before .before .a .given .1) refl refl (c .halves .ensures)
+returns c = scrolled (sym (c .before .before .before .before .before .scroll .ensures .answer-is) ∙ c .before .before .before .a .given .1) refl refl (c .halves .ensures)
 
 returns-2 : tie.Need-returns-2
 unfolding scrollPaper foundIn
-returns-2 c = scrolled (sym (c .before .before .before .before .scroll .ensures) ∙ c .before .before .enum-told .given .1) refl refl (c .halves2 .ensures)
+returns-2 c = scrolled (sym (c .before .before .before .before .scroll .ensures .answer-is) ∙ c .before .before .enum-told .given .1) refl refl (c .halves2 .ensures)
 
 returns-3 : tie.Need-returns-3
 unfolding scrollPaper foundIn
-returns-3 c = scrolled (sym (c .before .before .before .scroll .ensures) ∙ c .before .enum-told2 .given .1) refl refl (c .halves3 .ensures)
+returns-3 c = scrolled (sym (c .before .before .before .scroll .ensures .answer-is) ∙ c .before .enum-told2 .given .1) refl refl (c .halves3 .ensures)
 
 pub mearrasot-scroll-spec : {M : Type 1} → statement M
 mearrasot-scroll-spec =

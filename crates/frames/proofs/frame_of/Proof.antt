@@ -6,8 +6,8 @@ use borrow.Author.Needs.{needs}
 use Rattle.frames.proofs.frame_of.Statement.{statement}
 use Rattle.frames.proofs.frame_of.Tie as tie
 
-sizing-in-requires : tie.Need-sizing-in-requires
-sizing-in-requires c κs = search needs
+sizing-of-requires : tie.Need-sizing-of-requires
+sizing-of-requires c κs = search needs
 
 ratio-requires : tie.Need-ratio-requires
 ratio-requires c κs = search needs
@@ -27,13 +27,13 @@ returns c =
     let at-ratio = c .before .before .before in
     let a = at-ratio .before .before .before .before .args in
     let s = styleIn (a .r) (now (a .numbers)) in
-    rw (c .framed-by .ensures, c .before .unwrap-or .ensures, c .before .before .known-dimensions .ensures s (sym (at-ratio .ratio .ensures)), at-ratio .before .sizing-in .ensures)
+    rw (c .framed-by .ensures, c .before .unwrap-or .ensures, c .before .before .known-dimensions .ensures s (sym (at-ratio .ratio .ensures)), at-ratio .before .sizing-of .ensures)
 
 pub frame-of-spec : {M : Type 1} → statement M
 frame-of-spec =
     tie.close
     (tie.spec
-    sizing-in-requires
+    sizing-of-requires
     ratio-requires
     known-dimensions-requires
     unwrap-or-requires

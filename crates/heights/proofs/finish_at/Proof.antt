@@ -13,7 +13,7 @@ finish-requires c κs = search needs
 returns : tie.Need-returns
 returns c =
     let a = c .before .before .before .before .args in
-    c .finish .ensures (styleAt (now (a .words)) 0 (now (a .numbers)) (a .base)) (a .q) (c .before .tail-at .ensures)
+    λ f k h. c .finish .ensures (styleAt (now (a .words)) 0 (now (a .numbers)) (a .base)) (a .input) f k (c .before .tail-at .ensures) h
 
 pub finish-at-spec : {M : Type 1} → statement M
 finish-at-spec = tie.close (tie.spec tail-at-requires finish-requires returns)

@@ -7,7 +7,7 @@ use denote.Ref.{now}
 use Rattle.steps.specs.Scan.{scan}
 use Rattle.steps.specs.Page.{nodesIn}
 use Rattle.tables.proofs.ScanLaws.{pass, here, over, start}
-use Rattle.order.specs.Class.{steady, unsteady, keepsOrder}
+use Rattle.order.specs.Class.{unsteady, keepsOrder}
 use Rattle.keeps.proofs.keeps_order.Statement.{statement}
 use Rattle.keeps.proofs.keeps_order.Tie as tie
 
@@ -23,18 +23,15 @@ loop-holds c =
     let a = c .before .before .args in
     (omega arith, start (unsteady (now (a .words)) (now (a .numbers))) (λ _. true) false (nodesIn (now (a .words))))
 
-style-at-requires : tie.Need-style-at-requires Inv-loop μ-loop
-style-at-requires c κs = search needs
-
 steady-requires : tie.Need-steady-requires Inv-loop μ-loop
 steady-requires c κs = search needs
 
 returns : tie.Need-returns Inv-loop μ-loop
 unfolding keepsOrder unsteady
 returns c =
-    let a = c .before .before .before .before .before .before .before .args in
-    let l = c .before .before .before .before .loop in
-    let e = ap not (c .before .steady .ensures ∙ ap steady (c .before .before .style-at .ensures)) in
+    let a = c .before .before .before .before .before .before .args in
+    let l = c .before .before .before .loop in
+    let e = ap not (c .before .steady .ensures) in
     ap not (sym (l .inv .1 ∙ here (unsteady (now (a .words)) (now (a .numbers))) (λ _. true) false (nodesIn (now (a .words))) (l .i) (omega arith) (sym e ∙ c .if1 .taken)))
 
 add-i : tie.Need-add-i Inv-loop μ-loop
@@ -46,9 +43,9 @@ loop-less c = omega arith
 loop-again : tie.Need-loop-again Inv-loop μ-loop
 unfolding unsteady
 loop-again c =
-    let a = c .before .before .before .before .before .before .before .args in
-    let l = c .before .before .before .before .loop in
-    let e = ap not (c .before .steady .ensures ∙ ap steady (c .before .before .style-at .ensures)) in
+    let a = c .before .before .before .before .before .before .args in
+    let l = c .before .before .before .loop in
+    let e = ap not (c .before .steady .ensures) in
     (omega arith, l .inv .1 ∙ pass (unsteady (now (a .words)) (now (a .numbers))) (λ _. true) false (nodesIn (now (a .words))) (l .i) (omega arith) (sym e ∙ c .if1 .left))
 
 returns-2 : tie.Need-returns-2 Inv-loop μ-loop
@@ -65,7 +62,6 @@ keeps-order-spec =
     Inv-loop
     μ-loop
     loop-holds
-    style-at-requires
     steady-requires
     returns
     add-i

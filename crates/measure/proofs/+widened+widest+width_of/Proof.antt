@@ -1,9 +1,4 @@
-use mathlib.Core.Path.{refl}
-use Rattle.style.specs.Flow.{isLeaf}
-use Rattle.style.specs.declared.Measure.{Measure}
 use Rattle.style.specs.declared.Style.{Style}
-use Rattle.steps.specs.Width.{leafWidth}
-use Rattle.reader.specs.Reader.{kind-at, measure-at}
 use mathlib.Core.Path.{refl, sym, ap, _∙_}
 use Prim.Native.Nat.{_+_, _*_, _-_, _≤_, ℕ, _<_}
 use native.Mathlib.Omega.{arith}
@@ -14,7 +9,7 @@ use Rattle.steps.specs.Page.{Site}
 use Rattle.measure.specs.Contract.{SitesF}
 use Rattle.measure.proofs.Sites.{facts}
 use Rattle.measure.proofs.Loops.{WideRest, WideTurn, wide-begin, wide-turn, wide-end}
-use Rattle.measure.proofs.OneNode.{leaf-width, known-width, inner-width, nothing-widened, outer-widened, probe-widened}
+use Rattle.measure.proofs.OneNode.{width-at-once, width-inside, nothing-widened, outer-widened, probe-widened}
 use borrow.Fn.Kinds.{In}
 use borrow.Fn.PlainCycle.{Measures, is, falls, and}
 use Rattle.measure.proofs.widened.Reads as widened
@@ -27,16 +22,14 @@ use Rattle.measure.proofs.width_of.Reads as width-of
 use Rattle.measure.proofs.width_of.Kinds as width-of-kinds
 use Rattle.measure.proofs.+widened+widest+width_of.Lts-width_of as width-of-lts
 use Rattle.reader.proofs.reader_at.Reads as reader-at-reads
-use Rattle.style.proofs.measure_at.Reads as measure-at-reads
 use Rattle.style.proofs.word.Reads as word-reads
 use Rattle.util.proofs.f32_max.Reads as f32-max-reads
 use Rattle.widths.proofs.available_inside.Reads as available-inside-reads
-use Rattle.reader.proofs.is_leaf.Reads as is-leaf-reads
-use Rattle.widths.proofs.leaf_width.Reads as leaf-width-reads
 use Rattle.widths.proofs.outer_width.Reads as outer-width-reads
-use Rattle.widths.proofs.probe_known.Reads as probe-known-reads
 use Rattle.widths.proofs.want_of.Reads as want-of-reads
+use Rattle.widths.proofs.width_at_once.Reads as width-at-once-reads
 use Rattle.widths.proofs.width_from.Reads as width-from-reads
+use Rattle.widths.specs.AtOnce.{widthAtOnce}
 use Rattle.measure.proofs.+widened+widest+width_of.{statement}
 use Rattle.measure.proofs.+widened+widest+width_of.Tie.{close}
 
@@ -173,25 +166,10 @@ widest-returns : (t : ℕ) → widest-lts.Need-returns (widest-calls t) (widest-
 widest-returns t c = λ ts h. wide-end _ _ _ _ ts _ _ (c .before .loop .inv .1 ts h) (c .loop-test .left)
 
 abbrev width-of-calls : ℕ → width-of-lts.Claims
-width-of-calls t = (is-leaf-reads.Asked, is-leaf-reads.Learnt, measure-at-reads.Asked, measure-at-reads.Learnt, leaf-width-reads.Asked, leaf-width-reads.Learnt, reader-at-reads.Asked, reader-at-reads.Learnt, probe-known-reads.Asked, probe-known-reads.Learnt, available-inside-reads.Asked, available-inside-reads.Learnt, widest-below t, widest.Post, width-from-reads.Asked, width-from-reads.Learnt)
+width-of-calls t = (width-at-once-reads.Asked, width-at-once-reads.Learnt, reader-at-reads.Asked, reader-at-reads.Learnt, available-inside-reads.Asked, available-inside-reads.Learnt, widest-below t, widest.Post, width-from-reads.Asked, width-from-reads.Learnt)
 
-width-of-reader-at-requires : (t : ℕ) → width-of-lts.Need-reader-at-requires (width-of-calls t) (width-of-at t) width-of.Post
-width-of-reader-at-requires t c κs = let f = facts _ _ _ _ (c .before .before .before .before .pre .1) in (f .words-some, f .reach)
-
-width-of-measure-at-requires : (t : ℕ) → width-of-lts.Need-measure-at-requires (width-of-calls t) (width-of-at t) width-of.Post
-width-of-measure-at-requires t c κs = search needs
-
-width-of-is-leaf-requires : (t : ℕ) → width-of-lts.Need-is-leaf-requires (width-of-calls t) (width-of-at t) width-of.Post
-width-of-is-leaf-requires t c κs = let f = facts _ _ _ _ (c .before .before .pre .1) in f .words-some
-
-width-of-leaf-width-requires : (t : ℕ) → width-of-lts.Need-leaf-width-requires (width-of-calls t) (width-of-at t) width-of.Post
-width-of-leaf-width-requires t c κs = search needs
-
-width-of-returns : (t : ℕ) → width-of-lts.Need-returns (width-of-calls t) (width-of-at t) width-of.Post
-width-of-returns t c = let s = c .before .before .before .before .before .before in leaf-width (s .args .words .now) (s .args .numbers .now) (s .args .base) _ refl (s .args .q) _ (ap isLeaf (sym (kind-at (s .args .words .now) (s .args .numbers .now) (s .args .base))) ∙ sym (c .before .before .before .is-leaf .ensures) ∙ c .before .before .if1 .taken) (c .leaf-width .ensures ∙ ap (λ (m : Measure). leafWidth m (s .args .q .available)) (c .before .measure-at .ensures ∙ measure-at (s .args .words .now) (s .args .numbers .now) (s .args .base)))
-
-width-of-probe-known-requires : (t : ℕ) → width-of-lts.Need-probe-known-requires (width-of-calls t) (width-of-at t) width-of.Post
-width-of-probe-known-requires t c κs = search needs
+width-of-width-at-once-requires : (t : ℕ) → width-of-lts.Need-width-at-once-requires (width-of-calls t) (width-of-at t) width-of.Post
+width-of-width-at-once-requires t c κs = let f = facts _ _ _ _ (c .before .before .pre .1) in (f .words-some, f .reach)
 
 width-of-enum-known-width : (t : ℕ) → width-of-lts.Need-enum-known-width (width-of-calls t) (width-of-at t) width-of.Post
 width-of-enum-known-width t c = search needs
@@ -199,35 +177,48 @@ width-of-enum-known-width t c = search needs
 width-of-enum-told : (t : ℕ) → width-of-lts.Need-enum-told (width-of-calls t) (width-of-at t) width-of.Post
 width-of-enum-told t c = search needs
 
+width-of-reader-at-requires : (t : ℕ) → width-of-lts.Need-reader-at-requires (width-of-calls t) (width-of-at t) width-of.Post
+width-of-reader-at-requires t c κs = let s = c .before .before .before .before .before in let f = facts _ _ _ _ (s .pre .1) in (f .words-some, f .reach)
+
 width-of-available-inside-requires : (t : ℕ) → width-of-lts.Need-available-inside-requires (width-of-calls t) (width-of-at t) width-of.Post
 width-of-available-inside-requires t c κs = search needs
 
 width-of-sub-widest : (t : ℕ) → width-of-lts.Need-sub-widest (width-of-calls t) (width-of-at t) width-of.Post
-width-of-sub-widest t c = let f = facts _ _ _ _ (c .before .before .before .before .before .before .before .before .before .pre .1) in omega arith
+width-of-sub-widest t c = let s = c .before .before .before .before .before .before .before in let f = facts _ _ _ _ (s .pre .1) in omega arith
 
 width-of-part-widest-start : (t : ℕ) → width-of-lts.Need-part-widest-start (width-of-calls t) (width-of-at t) width-of.Post
-width-of-part-widest-start t c = let f = facts _ _ _ _ (c .before .before .before .before .before .before .before .before .before .pre .1) in omega arith
+width-of-part-widest-start t c = let s = c .before .before .before .before .before .before .before in let f = facts _ _ _ _ (s .pre .1) in omega arith
 
 width-of-part-widest-end : (t : ℕ) → width-of-lts.Need-part-widest-end (width-of-calls t) (width-of-at t) width-of.Post
-width-of-part-widest-end t c = let f = facts _ _ _ _ (c .before .before .before .before .before .before .before .before .before .pre .1) in omega arith
+width-of-part-widest-end t c = let s = c .before .before .before .before .before .before .before in let f = facts _ _ _ _ (s .pre .1) in omega arith
 
 width-of-add-widest : (t : ℕ) → width-of-lts.Need-add-widest (width-of-calls t) (width-of-at t) width-of.Post
-width-of-add-widest t c = let f = facts _ _ _ _ (c .before .before .before .before .before .before .before .before .before .before .pre .1) in omega arith
+width-of-add-widest t c = let s = c .before .before .before .before .before .before .before .before in let f = facts _ _ _ _ (s .pre .1) in omega arith
 
 width-of-sub-widest-2 : (t : ℕ) → width-of-lts.Need-sub-widest-2 (width-of-calls t) (width-of-at t) width-of.Post
-width-of-sub-widest-2 t c = let f = facts _ _ _ _ (c .before .before .before .before .before .before .before .before .before .before .pre .1) in omega arith
+width-of-sub-widest-2 t c = let s = c .before .before .before .before .before .before .before .before in let f = facts _ _ _ _ (s .pre .1) in omega arith
 
 width-of-widest-requires : (t : ℕ) → width-of-lts.Need-widest-requires (width-of-calls t) (width-of-at t) width-of.Post
-width-of-widest-requires t c κs = let f = facts _ _ _ _ (c .before .before .before .before .before .before .before .before .before .before .pre .1) in (omega (arith, c .before .before .before .before .before .before .before .before .before .before .pre .0), f .kids)
+width-of-widest-requires t c κs = let s = c .before .before .before .before .before .before .before .before in let f = facts _ _ _ _ (s .pre .1) in (omega (arith, s .pre .0), f .kids)
 
 width-of-width-from-requires : (t : ℕ) → width-of-lts.Need-width-from-requires (width-of-calls t) (width-of-at t) width-of.Post
 width-of-width-from-requires t c κs = search needs
 
-width-of-returns-2 : (t : ℕ) → width-of-lts.Need-returns-2 (width-of-calls t) (width-of-at t) width-of.Post
-width-of-returns-2 t c = let s = c .before .before .before .before .before .before .before .before .before in known-width (s .args .words .now) (s .args .numbers .now) (s .args .base) _ (c .before .before .before .before .reader-at .ensures .1) (s .args .q) _ _ (ap (λ (y : Style). isLeaf (y .kind)) (c .before .before .before .before .reader-at .ensures .1) ∙ ap isLeaf (sym (kind-at (s .args .words .now) (s .args .numbers .now) (s .args .base))) ∙ sym (c .before .before .before .before .before .before .is-leaf .ensures) ∙ c .before .before .before .before .before .if1 .left) (c .before .before .before .probe-known .ensures) (c .before .width .given .1)
+width-of-returns : (t : ℕ) → width-of-lts.Need-returns (width-of-calls t) (width-of-at t) width-of.Post
+width-of-returns t c =
+    let at-once = c .before .before .before in
+    let s = at-once .before .before .before in
+    width-at-once (s .args .words .now) (s .args .numbers .now) (s .args .base) _ refl (s .args .q) _ (sym (at-once .width-at-once .ensures) ∙ c .before .width .given .1)
 
-width-of-returns-3 : (t : ℕ) → width-of-lts.Need-returns-3 (width-of-calls t) (width-of-at t) width-of.Post
-width-of-returns-3 t c = let s = c .before .before .before .before .before .before .before .before .before .before .before .before in inner-width (s .args .words .now) (s .args .numbers .now) (s .args .base) _ (c .before .before .before .before .before .before .before .reader-at .ensures .1) (s .args .q) _ _ _ _ (ap (λ (y : Style). isLeaf (y .kind)) (c .before .before .before .before .before .before .before .reader-at .ensures .1) ∙ ap isLeaf (sym (kind-at (s .args .words .now) (s .args .numbers .now) (s .args .base))) ∙ sym (c .before .before .before .before .before .before .before .before .before .is-leaf .ensures) ∙ c .before .before .before .before .before .before .before .before .if1 .left) (c .before .before .before .before .before .before .probe-known .ensures) (c .before .before .before .before .enum-told .given .1) (c .before .before .before .available-inside .ensures) (c .before .widest .ensures) (c .width-from .ensures)
+width-of-returns-2 : (t : ℕ) → width-of-lts.Need-returns-2 (width-of-calls t) (width-of-at t) width-of.Post
+width-of-returns-2 t c =
+    let at-widest = c .before in
+    let at-inside = at-widest .before .before in
+    let at-reader-at = at-inside .before in
+    let at-told = at-reader-at .before in
+    let at-once = at-told .before .before in
+    let s = at-once .before .before .before in
+    width-inside (s .args .words .now) (s .args .numbers .now) (s .args .base) _ (at-reader-at .reader-at .ensures .1) (s .args .q) _ _ _ (ap (λ (z : Style). widthAtOnce z (s .args .q)) (at-reader-at .reader-at .ensures .1) ∙ sym (at-once .width-at-once .ensures) ∙ at-told .enum-told .given .1) (at-inside .available-inside .ensures) (at-widest .widest .ensures) (c .width-from .ensures)
 
 pub +widened+widest+width-of-spec : {M : Type 1} → statement M
 +widened+widest+width-of-spec = close μ-widened μ-widest μ-width-of (λ t. widened-lts.spec (widened-calls t)
@@ -270,14 +261,10 @@ pub +widened+widest+width-of-spec : {M : Type 1} → statement M
     λ t. width-of-lts.spec (width-of-calls t)
     (width-of-at t)
     width-of.Post
-    (width-of-is-leaf-requires t)
-    (width-of-measure-at-requires t)
-    (width-of-leaf-width-requires t)
-    (width-of-returns t)
-    (width-of-reader-at-requires t)
-    (width-of-probe-known-requires t)
+    (width-of-width-at-once-requires t)
     (width-of-enum-known-width t)
     (width-of-enum-told t)
+    (width-of-reader-at-requires t)
     (width-of-available-inside-requires t)
     (width-of-sub-widest t)
     (width-of-part-widest-start t)
@@ -286,5 +273,5 @@ pub +widened+widest+width-of-spec : {M : Type 1} → statement M
     (width-of-sub-widest-2 t)
     (width-of-widest-requires t)
     (width-of-width-from-requires t)
+    (width-of-returns t)
     (width-of-returns-2 t)
-    (width-of-returns-3 t)

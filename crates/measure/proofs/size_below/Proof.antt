@@ -8,8 +8,8 @@ use Rattle.measure.proofs.size_below.Tie as tie
 reader-at-requires : tie.Need-reader-at-requires
 reader-at-requires c κs = let f = facts _ _ _ _ (c .before .before .pre) in (f .words-some, f .reach)
 
-sizing-of-requires : tie.Need-sizing-of-requires
-sizing-of-requires c κs = search needs
+sizing-without-height-basis-requires : tie.Need-sizing-without-height-basis-requires
+sizing-without-height-basis-requires c κs = search needs
 
 ratio-requires : tie.Need-ratio-requires
 ratio-requires c κs = search needs
@@ -33,14 +33,14 @@ returns : tie.Need-returns
 returns c =
     let at-known = c .before .before .before .before .before in
     let at-start = at-known .before .before .before .before .before .before .before in
-    rest-of (at-start .args .words .now) (at-start .args .numbers .now) (at-start .args .q) (at-start .args .axis) _ _ _ (at-known .before .before .before .before .reader-at .ensures .1) (at-known .before .before .sizing-of .ensures) _ _ _ _ (at-known .known-dimensions .ensures _ (sym (at-known .before .ratio .ensures))) (c .before .before .before .found-width .ensures) (c .before .before .unwrap-or .ensures) (c .before .vertical-axis-sum .ensures) (c .size-after-width .ensures)
+    rest-of (at-start .args .words .now) (at-start .args .numbers .now) (at-start .args .q) (at-start .args .axis) _ _ _ (at-known .before .before .before .before .reader-at .ensures .1) (at-known .before .before .sizing-without-height-basis .ensures) _ _ _ _ (at-known .known-dimensions .ensures _ (sym (at-known .before .ratio .ensures))) (c .before .before .before .found-width .ensures) (c .before .before .unwrap-or .ensures) (c .before .vertical-axis-sum .ensures) (c .size-after-width .ensures)
 
 pub size-below-spec : {M : Type 1} → statement M
 size-below-spec =
     tie.close
     (tie.spec
     reader-at-requires
-    sizing-of-requires
+    sizing-without-height-basis-requires
     ratio-requires
     known-dimensions-requires
     found-width-requires

@@ -7,11 +7,11 @@ use Rattle.measure.proofs.size_of.Tie as tie
 reader-at-requires : tie.Need-reader-at-requires
 reader-at-requires c κs = let f = facts _ _ _ _ (c .before .before .pre) in (f .words-some, f .reach)
 
-sizing-of-requires : tie.Need-sizing-of-requires
-sizing-of-requires c κs = search needs
+sizing-without-height-basis-requires : tie.Need-sizing-without-height-basis-requires
+sizing-without-height-basis-requires c κs = search needs
 
-known-by-style-requires : tie.Need-known-by-style-requires
-known-by-style-requires c κs = search needs
+styled-based-known-dimensions-requires : tie.Need-styled-based-known-dimensions-requires
+styled-based-known-dimensions-requires c κs = search needs
 
 enum-told : tie.Need-enum-told
 enum-told c = search needs
@@ -26,18 +26,18 @@ size-with-width-requires : tie.Need-size-with-width-requires
 size-with-width-requires c κs = search needs
 
 returns : tie.Need-returns
-returns c = size-open (c .before .before .before .before .before .before .before .before .before .args .words .now) (c .before .before .before .before .before .before .before .before .before .args .numbers .now) (c .before .before .before .before .before .before .before .before .before .args .q) (c .before .before .before .before .before .before .before .before .before .args .axis) _ _ _ (c .before .before .before .before .before .before .reader-at .ensures .1) (c .before .before .before .before .sizing-of .ensures) _ (c .before .before .before .known-by-style .ensures) (c .before .enum-told .given .1) (c .size-below .ensures)
+returns c = size-open (c .before .before .before .before .before .before .before .before .before .args .words .now) (c .before .before .before .before .before .before .before .before .before .args .numbers .now) (c .before .before .before .before .before .before .before .before .before .args .q) (c .before .before .before .before .before .before .before .before .before .args .axis) _ _ _ (c .before .before .before .before .before .before .reader-at .ensures .1) (c .before .before .before .before .sizing-without-height-basis .ensures) _ (c .before .before .before .styled-based-known-dimensions .ensures) (c .before .enum-told .given .1) (c .size-below .ensures)
 
 returns-2 : tie.Need-returns-2
-returns-2 c = size-known (c .before .before .before .before .before .before .before .before .before .before .args .words .now) (c .before .before .before .before .before .before .before .before .before .before .args .numbers .now) (c .before .before .before .before .before .before .before .before .before .before .args .q) (c .before .before .before .before .before .before .before .before .before .before .args .axis) _ _ _ (c .before .before .before .before .before .before .before .reader-at .ensures .1) (c .before .before .before .before .before .sizing-of .ensures) _ _ (c .before .before .before .before .known-by-style .ensures) (c .before .before .width .given .1) (c .size-with-width .ensures)
+returns-2 c = size-known (c .before .before .before .before .before .before .before .before .before .before .args .words .now) (c .before .before .before .before .before .before .before .before .before .before .args .numbers .now) (c .before .before .before .before .before .before .before .before .before .before .args .q) (c .before .before .before .before .before .before .before .before .before .before .args .axis) _ _ _ (c .before .before .before .before .before .before .before .reader-at .ensures .1) (c .before .before .before .before .before .sizing-without-height-basis .ensures) _ _ (c .before .before .before .before .styled-based-known-dimensions .ensures) (c .before .before .width .given .1) (c .size-with-width .ensures)
 
 pub size-of-spec : {M : Type 1} → statement M
 size-of-spec =
     tie.close
     (tie.spec
     reader-at-requires
-    sizing-of-requires
-    known-by-style-requires
+    sizing-without-height-basis-requires
+    styled-based-known-dimensions-requires
     enum-told
     size-below-requires
     enum-known-width

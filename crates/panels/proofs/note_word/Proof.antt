@@ -14,13 +14,13 @@ cast-word : tie.Need-cast-word
 cast-word c = search needs
 
 returns : tie.Need-returns
-returns c = let a = c .before .before .before .before .before .before .args in ap (λ (s : Sheet). listed s) (word-no-node (a .x) (now (a .words)) (now (a .numbers)) (now (a .list)) (a .count) (search needs))
+returns c = let a = c .before .before .before .before .before .before .before .args in ap (λ (s : Sheet). listed s) (word-no-node (a .x) (now (a .words)) (now (a .numbers)) (now (a .list)) (a .count) (search needs))
 
 returns-2 : tie.Need-returns-2
-returns-2 c = let a = c .before .before .before .before .before .before .before .args in ap (λ (s : Sheet). listed s) (word-zero (a .x) (now (a .words)) (now (a .numbers)) (now (a .list)) (a .count) (search needs) (search needs))
+returns-2 c = let a = c .before .before .before .before .before .before .before .before .args in ap (λ (s : Sheet). listed s) (word-zero (a .x) (now (a .words)) (now (a .numbers)) (now (a .list)) (a .count) (search needs) (search needs))
 
 returns-3 : tie.Need-returns-3
-returns-3 c = let a = c .before .before .before .before .before .before .before .before .args in ap (λ (s : Sheet). listed s) (word-large (a .x) (now (a .words)) (now (a .numbers)) (now (a .list)) (a .count) (search needs) (search needs) (search needs))
+returns-3 c = let a = c .before .before .before .before .before .before .before .before .before .args in ap (λ (s : Sheet). listed s) (word-large (a .x) (now (a .words)) (now (a .numbers)) (now (a .list)) (a .count) (search needs) (search needs) (search needs))
 
 note-requires : tie.Need-note-requires
 note-requires c κs = search needs
@@ -29,7 +29,7 @@ same-length : tie.Need-same-length
 same-length c = search needs
 
 returns-4 : tie.Need-returns-4
-returns-4 c = let a = c .before .before .before .before .before .before .before .before .before .before .before .before .args in ap (λ (s : Sheet). listed s) (word-edited (a .x) (now (a .words)) (now (a .numbers)) (now (a .list)) (a .count) _ _ (search needs) (search needs) (search needs) (c .before .before .note .ensures))
+returns-4 c = let a = c .before .before .before .before .before .before .before .before .before .before .before .before .before .args in ap (λ (s : Sheet). listed s) (word-edited (a .x) (now (a .words)) (now (a .numbers)) (now (a .list)) (a .count) _ _ (search needs) (search needs) (search needs) (c .before .before .note .ensures))
 
 pub note-word-spec : {M : Type 1} → statement M
 note-word-spec =

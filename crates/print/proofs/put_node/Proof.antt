@@ -33,6 +33,9 @@ word-at-requires c κs = search needs
 flag-requires : tie.Need-flag-requires
 flag-requires c κs = search needs
 
+cast-t16 : tie.Need-cast-t16
+cast-t16 c = search needs
+
 mul-word-at-2 : tie.Need-mul-word-at-2
 mul-word-at-2 c = search needs
 
@@ -99,6 +102,7 @@ put-node-spec =
     add-word-at
     word-at-requires
     flag-requires
+    cast-t16
     mul-word-at-2
     word-at-requires-2
     mul-number-at

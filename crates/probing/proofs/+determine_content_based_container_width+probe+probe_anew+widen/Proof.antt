@@ -22,9 +22,9 @@ use Rattle.probing.proofs.+determine_content_based_container_width+prob
 use Rattle.probing.proofs.probe.Reads as probe
 use Rattle.probing.proofs.probe.Kinds as probe-kinds
 use Rattle.probing.proofs.+determine_content_based_container_width+probe+probe_anew+widen.Lts-probe as probe-lts
-use Rattle.probing.specs.Contract.{widthAtOnce}
+use Rattle.widths.specs.AtOnce.{widthAtOnce}
 use Rattle.probing.proofs.most_past.Reads as most-past-reads
-use Rattle.probing.proofs.width_at_once.Reads as width-at-once-reads
+use Rattle.widths.proofs.width_at_once.Reads as width-at-once-reads
 use Rattle.probing.proofs.probe_anew.Reads as probe-anew
 use Rattle.probing.proofs.probe_anew.Kinds as probe-anew-kinds
 use Rattle.probing.proofs.+determine_content_based_container_width+probe+probe_anew+widen.Lts-probe_anew as probe-anew-lts

@@ -9,8 +9,8 @@ use Rattle.probing.proofs.width_pass.Tie as tie
 reader-at-requires : tie.Need-reader-at-requires
 reader-at-requires c κs = let f = facts _ _ _ _ _ _ _ (c .before .before .before .before .before .pre) in (f .words-some, f .reach)
 
-sizing-of-requires : tie.Need-sizing-of-requires
-sizing-of-requires c κs = search needs
+sizing-without-height-basis-requires : tie.Need-sizing-without-height-basis-requires
+sizing-without-height-basis-requires c κs = search needs
 
 ratio-requires : tie.Need-ratio-requires
 ratio-requires c κs = search needs
@@ -82,7 +82,7 @@ same-length-2 : tie.Need-same-length-2
 same-length-2 c = let f = facts _ _ _ _ _ _ _ (c .before .before .before .before .before .before .before .before .before .before .before .before .before .before .before .before .before .before .before .pre) in omega arith
 
 returns : tie.Need-returns
-returns c = let s = c .before .before .before .before .before .before .before .before .before .before .before .before .before .before .before .before .before .before .before in passed-known (s .args .words .now) (s .args .numbers .now) (s .args .rows .now) (s .args .marks .now) (s .args .edits .now) (s .args .q) _ _ _ (c .before .before .before .before .before .before .before .before .before .before .before .before .before .reader-at .ensures .1) (c .before .before .before .before .before .before .before .before .before .before .before .sizing-of .ensures) (c .before .before .before .before .before .before .before .before .before .known-dimensions .ensures _ (sym (c .before .before .before .before .before .before .before .before .before .before .ratio .ensures))) _ _ _ (c .before .before .before .before .before .before .before .enum-told .given .1) (c .before .before .before .before .clear-probes .ensures)
+returns c = let s = c .before .before .before .before .before .before .before .before .before .before .before .before .before .before .before .before .before .before .before in passed-known (s .args .words .now) (s .args .numbers .now) (s .args .rows .now) (s .args .marks .now) (s .args .edits .now) (s .args .q) _ _ _ (c .before .before .before .before .before .before .before .before .before .before .before .before .before .reader-at .ensures .1) (c .before .before .before .before .before .before .before .before .before .before .before .sizing-without-height-basis .ensures) (c .before .before .before .before .before .before .before .before .before .known-dimensions .ensures _ (sym (c .before .before .before .before .before .before .before .before .before .before .ratio .ensures))) _ _ _ (c .before .before .before .before .before .before .before .enum-told .given .1) (c .before .before .before .before .clear-probes .ensures)
 
 same-length-3 : tie.Need-same-length-3
 same-length-3 c = let f = facts _ _ _ _ _ _ _ (c .before .before .before .before .before .before .before .before .before .before .before .before .before .before .before .before .before .before .before .before .before .before .before .before .before .before .before .before .before .pre) in omega arith
@@ -91,14 +91,14 @@ same-length-4 : tie.Need-same-length-4
 same-length-4 c = let f = facts _ _ _ _ _ _ _ (c .before .before .before .before .before .before .before .before .before .before .before .before .before .before .before .before .before .before .before .before .before .before .before .before .before .before .before .before .before .pre) in omega arith
 
 returns-2 : tie.Need-returns-2
-returns-2 c = let s = c .before .before .before .before .before .before .before .before .before .before .before .before .before .before .before .before .before .before .before .before .before .before .before .before .before .before .before .before .before in passed-below (s .args .words .now) (s .args .numbers .now) (s .args .rows .now) (s .args .marks .now) (s .args .edits .now) (s .args .q) _ _ _ (c .before .before .before .before .before .before .before .before .before .before .before .before .before .before .before .before .before .before .before .before .before .before .before .reader-at .ensures .1) (c .before .before .before .before .before .before .before .before .before .before .before .before .before .before .before .before .before .before .before .before .before .sizing-of .ensures) (c .before .before .before .before .before .before .before .before .before .before .before .before .before .before .before .before .before .before .before .known-dimensions .ensures _ (sym (c .before .before .before .before .before .before .before .before .before .before .before .before .before .before .before .before .before .before .before .before .ratio .ensures))) _ _ _ _ _ _ _ (c .before .before .before .before .before .before .before .before .before .before .before .before .before .before .before .before .before .enum-told2 .given .1) (c .before .before .before .before .before .before .before .before .before .before .before .before .before .before .clear-first .ensures) (c .before .before .before .before .before .before .before .before .before .available-inside .ensures) (c .before .before .before .before .before .determine-content-based-container-width .ensures) (c .width-from .ensures)
+returns-2 c = let s = c .before .before .before .before .before .before .before .before .before .before .before .before .before .before .before .before .before .before .before .before .before .before .before .before .before .before .before .before .before in passed-below (s .args .words .now) (s .args .numbers .now) (s .args .rows .now) (s .args .marks .now) (s .args .edits .now) (s .args .q) _ _ _ (c .before .before .before .before .before .before .before .before .before .before .before .before .before .before .before .before .before .before .before .before .before .before .before .reader-at .ensures .1) (c .before .before .before .before .before .before .before .before .before .before .before .before .before .before .before .before .before .before .before .before .before .sizing-without-height-basis .ensures) (c .before .before .before .before .before .before .before .before .before .before .before .before .before .before .before .before .before .before .before .known-dimensions .ensures _ (sym (c .before .before .before .before .before .before .before .before .before .before .before .before .before .before .before .before .before .before .before .before .ratio .ensures))) _ _ _ _ _ _ _ (c .before .before .before .before .before .before .before .before .before .before .before .before .before .before .before .before .before .enum-told2 .given .1) (c .before .before .before .before .before .before .before .before .before .before .before .before .before .before .clear-first .ensures) (c .before .before .before .before .before .before .before .before .before .available-inside .ensures) (c .before .before .before .before .before .determine-content-based-container-width .ensures) (c .width-from .ensures)
 
 pub width-pass-spec : {M : Type 1} → statement M
 width-pass-spec =
     tie.close
     (tie.spec
     reader-at-requires
-    sizing-of-requires
+    sizing-without-height-basis-requires
     ratio-requires
     known-dimensions-requires
     enum-told

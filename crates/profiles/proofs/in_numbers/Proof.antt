@@ -3,8 +3,8 @@ use Rattle.profiles.specs.Numbers.{inNumbers}
 use Rattle.profiles.proofs.in_numbers.Statement.{statement}
 use Rattle.profiles.proofs.in_numbers.Tie as tie
 
-number-requires : tie.Need-number-requires
-number-requires c κs = search needs
+number-in-requires : tie.Need-number-in-requires
+number-in-requires c κs = search needs
 
 ratio-from-requires : tie.Need-ratio-from-requires
 ratio-from-requires c κs = search needs
@@ -31,7 +31,7 @@ returns c =
     let at-some = at-center .before .before in
     let at-broken = at-some .before .before in
     let at-align = at-broken .before in
-    rw (← at-broken .some-broken .ensures, at-some .before .if1 .taken, ← at-align .before .before .number .ensures, ← at-align .before .ratio-from .ensures, ← at-some .is-some .ensures, at-center .before .if2 .taken, ← at-align .align-of .ensures, ← at-center .is-center .ensures, c .before .if3 .taken) (c .one-auto .ensures)
+    rw (← at-broken .some-broken .ensures, at-some .before .if1 .taken, ← at-align .before .before .number-in .ensures, ← at-align .before .ratio-from .ensures, ← at-some .is-some .ensures, at-center .before .if2 .taken, ← at-align .align-of .ensures, ← at-center .is-center .ensures, c .before .if3 .taken) (c .one-auto .ensures)
 
 returns-2 : tie.Need-returns-2
 unfolding inNumbers
@@ -40,7 +40,7 @@ returns-2 c =
     let at-some = at-center .before .before in
     let at-broken = at-some .before .before in
     let at-align = at-broken .before in
-    rw (← at-broken .some-broken .ensures, at-some .before .if1 .taken, ← at-align .before .before .number .ensures, ← at-align .before .ratio-from .ensures, ← at-some .is-some .ensures, at-center .before .if2 .taken, ← at-align .align-of .ensures, ← at-center .is-center .ensures, c .if3 .left)
+    rw (← at-broken .some-broken .ensures, at-some .before .if1 .taken, ← at-align .before .before .number-in .ensures, ← at-align .before .ratio-from .ensures, ← at-some .is-some .ensures, at-center .before .if2 .taken, ← at-align .align-of .ensures, ← at-center .is-center .ensures, c .if3 .left)
 
 returns-3 : tie.Need-returns-3
 unfolding inNumbers
@@ -48,11 +48,11 @@ returns-3 c =
     let at-some = c .before in
     let at-broken = at-some .before .before in
     let at-ratio = at-broken .before .before in
-    rw (← at-broken .some-broken .ensures, at-some .before .if1 .taken, ← at-ratio .before .number .ensures, ← at-ratio .ratio-from .ensures, ← at-some .is-some .ensures, c .if2 .left)
+    rw (← at-broken .some-broken .ensures, at-some .before .if1 .taken, ← at-ratio .before .number-in .ensures, ← at-ratio .ratio-from .ensures, ← at-some .is-some .ensures, c .if2 .left)
 
 returns-4 : tie.Need-returns-4
 unfolding inNumbers
 returns-4 c = rw (← c .before .some-broken .ensures, c .if1 .left)
 
 pub in-numbers-spec : {M : Type 1} → statement M
-in-numbers-spec = tie.close (tie.spec number-requires ratio-from-requires align-of-requires some-broken-requires is-some-requires is-center-requires one-auto-requires returns returns-2 returns-3 returns-4)
+in-numbers-spec = tie.close (tie.spec number-in-requires ratio-from-requires align-of-requires some-broken-requires is-some-requires is-center-requires one-auto-requires returns returns-2 returns-3 returns-4)

@@ -28,8 +28,8 @@ same-length-2 c = search needs
 returns : tie.Need-returns
 returns c =
     let s = c .before .before .before .before .before .before .before .before .before .before in (
-      rw (c .before .before .before .before .before .before .clear .ensures) (hidden-rows (length (s .args .rows .now)) (s .args .count) (s .pre .rows-some)),
-      rw (c .before .before .clear-marks .ensures) (hidden-marks (length (s .args .marks .now)) (s .args .count) (s .pre .marks-some)),
+      rw (c .before .before .before .before .before .before .clear .ensures) (hidden-rows (length (s .args .rows .now)) (s .args .order .0) (s .pre .rows-some)),
+      rw (c .before .before .clear-marks .ensures) (hidden-marks (length (s .args .marks .now)) (s .args .order .0) (s .pre .marks-some)),
     )
 
 pub put-hidden-spec : {M : Type 1} → statement M

@@ -59,7 +59,14 @@ same-length c = search needs
 returns : tie.Need-returns
 unfolding rowLine
 returns c =
-    simp put-append (rw (c .before .before .put .ensures, c .before .before .before .before .before .before .put-numbers .ensures, c .before .before .before .before .before .before .before .before .before .before .put-bits .ensures, c .before .before .before .before .before .before .before .before .before .before .before .before .before .before .put-count .ensures, c .before .before .before .before .before .before .before .before .before .before .before .before .before .before .before .before .before .before .put-decimal .ensures, c .before .before .before .before .before .before .before .before .before .before .before .before .before .before .before .before .before .before .before .before .before .before .put-text .ensures, c .before .before .before .before .before .before .before .before .before .before .before .before .before .before .before .before .before .before .before .before .before .before .before .before .before .before .word-at .ensures, c .before .before .before .before .before .before .before .before .before .before .before .before .before .before .before .before .before .before .before .before .before .before .before .before .before .word-at2 .ensures))
+    let at-newline = c .before .before in
+    let at-numbers = at-newline .before .before .before .before in
+    let at-bits = at-numbers .before .before .before .before in
+    let at-order = at-bits .before .before .before .before in
+    let at-node = at-order .before .before .before .before .before in
+    let at-key = at-node .before .before .before .before in
+    let at-words = at-key .before .before .before in
+    simp put-append (rw (at-newline .put .ensures, at-numbers .put-numbers .ensures, at-bits .put-bits .ensures, at-order .put-count .ensures, at-node .put-decimal .ensures, at-key .put-text .ensures, at-words .before .word-at .ensures, at-words .word-at2 .ensures))
 
 pub put-row-spec : {M : Type 1} → statement M
 put-row-spec =

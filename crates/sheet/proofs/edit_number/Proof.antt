@@ -22,26 +22,26 @@ cast-field c = search needs
 
 returns : tie.Need-returns
 returns c =
-    let a = c .before .before .before .before .before .before .args in number-no-node (a .x) (now (a .words)) (now (a .numbers)) (now (a .list)) (a .count) (search needs)
+    let a = c .before .before .before .before .before .before .before .args in number-no-node (a .x) (now (a .words)) (now (a .numbers)) (now (a .list)) (a .count) (search needs)
 
 div-if2 : tie.Need-div-if2
 div-if2 c = search needs
 
 returns-2 : tie.Need-returns-2
 returns-2 c =
-    let a = c .before .before .before .before .before .before .before .args in number-no-field (a .x) (now (a .words)) (now (a .numbers)) (now (a .list)) (a .count) (search needs) (search needs)
+    let a = c .before .before .before .before .before .before .before .before .args in number-no-field (a .x) (now (a .words)) (now (a .numbers)) (now (a .list)) (a .count) (search needs) (search needs)
 
 number-place-requires : tie.Need-number-place-requires
 number-place-requires c κs =
-    let a = c .before .before .before .before .before .before .before .args in omega (arith, place-in (length (now (a .words)) / 4) (a .x .node) (a .x .field) (length (now (a .numbers))) (search needs) (search needs))
+    let a = c .before .before .before .before .before .before .before .before .args in omega (arith, place-in (length (now (a .words)) / 4) (a .x .node .0) (a .x .field) (length (now (a .numbers))) (search needs) (search needs))
 
 mul-numbers : tie.Need-mul-numbers
 mul-numbers c =
-    let a = c .before .before .before .before .before .before .before .before .args in omega (arith, c .number-place .ensures, place-in (length (now (a .words)) / 4) (a .x .node) (a .x .field) (length (now (a .numbers))) (search needs) (search needs))
+    let a = c .before .before .before .before .before .before .before .before .before .args in omega (arith, c .number-place .ensures, place-in (length (now (a .words)) / 4) (a .x .node .0) (a .x .field) (length (now (a .numbers))) (search needs) (search needs))
 
 slice-write-numbers : tie.Need-slice-write-numbers
 slice-write-numbers c =
-    let a = c .before .before .before .before .before .before .before .before .args in omega (arith, c .number-place .ensures, place-in (length (now (a .words)) / 4) (a .x .node) (a .x .field) (length (now (a .numbers))) (search needs) (search needs))
+    let a = c .before .before .before .before .before .before .before .before .before .args in omega (arith, c .number-place .ensures, place-in (length (now (a .words)) / 4) (a .x .node .0) (a .x .field) (length (now (a .numbers))) (search needs) (search needs))
 
 note-requires : tie.Need-note-requires
 note-requires c κs = search needs
@@ -54,7 +54,7 @@ same-length-2 c = search needs
 
 returns-3 : tie.Need-returns-3
 returns-3 c =
-    let a = c .before .before .before .before .before .before .before .before .before .before .before .before .args in
+    let a = c .before .before .before .before .before .before .before .before .before .before .before .before .before .args in
     ap (λ k. sheet (now (a .words)) (set (now (a .numbers)) k (a .x .value)) (c .before .before .note .last .1 .1 .0) (c .before .before .note .result)) (c .before .before .before .before .number-place .ensures)
     ∙ number-edited (a .x) (now (a .words)) (now (a .numbers)) (now (a .list)) (a .count) (c .before .before .note .last .1 .1 .0) (c .before .before .note .result) (search needs) (search needs) (c .before .before .note .ensures)
 

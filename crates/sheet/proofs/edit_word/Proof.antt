@@ -16,15 +16,15 @@ cast-word c = search needs
 
 returns : tie.Need-returns
 returns c =
-    λ xs. let a = c .before .before .before .before .before .args in word-no-node (a .x) (now (a .words)) xs (now (a .list)) (a .count) (search needs)
+    λ xs. let a = c .before .before .before .before .before .before .args in word-no-node (a .x) (now (a .words)) xs (now (a .list)) (a .count) (search needs)
 
 returns-2 : tie.Need-returns-2
 returns-2 c =
-    λ xs. let a = c .before .before .before .before .before .before .args in word-zero (a .x) (now (a .words)) xs (now (a .list)) (a .count) (search needs) (search needs)
+    λ xs. let a = c .before .before .before .before .before .before .before .args in word-zero (a .x) (now (a .words)) xs (now (a .list)) (a .count) (search needs) (search needs)
 
 returns-3 : tie.Need-returns-3
 returns-3 c =
-    λ xs. let a = c .before .before .before .before .before .before .before .args in word-large (a .x) (now (a .words)) xs (now (a .list)) (a .count) (search needs) (search needs) (search needs)
+    λ xs. let a = c .before .before .before .before .before .before .before .before .args in word-large (a .x) (now (a .words)) xs (now (a .list)) (a .count) (search needs) (search needs) (search needs)
 
 mul-words : tie.Need-mul-words
 mul-words c = search needs
@@ -49,7 +49,7 @@ same-length-2 c = search needs
 
 returns-4 : tie.Need-returns-4
 returns-4 c =
-    λ xs. let a = c .before .before .before .before .before .before .before .before .before .before .before .args in word-edited (a .x) (now (a .words)) xs (now (a .list)) (a .count) (c .before .before .note .last .1 .1 .0) (c .before .before .note .result) (search needs) (search needs) (search needs) (c .before .before .note .ensures)
+    λ xs. let a = c .before .before .before .before .before .before .before .before .before .before .before .before .args in word-edited (a .x) (now (a .words)) xs (now (a .list)) (a .count) (c .before .before .note .last .1 .1 .0) (c .before .before .note .result) (search needs) (search needs) (search needs) (c .before .before .note .ensures)
 
 pub edit-word-spec : {M : Type 1} → statement M
 edit-word-spec =

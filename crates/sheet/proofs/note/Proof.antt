@@ -7,7 +7,7 @@ use Rattle.sheet.proofs.note.Reads as reads
 use Rattle.sheet.proofs.note.Lts as lts
 
 returns : tie.Need-returns
-returns c = let a = c .before .args in full (a .node) (now (a .list)) (a .count) (search needs)
+returns c = let a = c .before .args in full (a .node .0) (now (a .list)) (a .count) (search needs)
 
 mul-list : tie.Need-mul-list
 mul-list c = search needs
@@ -22,7 +22,7 @@ same-length : tie.Need-same-length
 same-length c = search needs
 
 returns-2 : tie.Need-returns-2
-returns-2 c = let a = c .before .args in room (a .node) (now (a .list)) (a .count) (search needs)
+returns-2 c = let a = c .before .args in room (a .node .0) (now (a .list)) (a .count) (search needs)
 
 pub note-spec : {M : Type 1} → statement M
 note-spec = tie.close (tie.spec returns mul-list slice-write-list add-result same-length returns-2)

@@ -64,11 +64,11 @@ flow-at-requires c κs = search needs
 enum-told : tie.Need-enum-told Inv-loop μ-loop
 enum-told c = search needs
 
-mul-order : tie.Need-mul-order Inv-loop μ-loop
-mul-order c = let f = at-turn (c .before .before .before .before) in let w = c .before .before .before .before .before .before .before .before .before .before .pre .fit in omega arith
+mul-t19 : tie.Need-mul-t19 Inv-loop μ-loop
+mul-t19 c = let f = at-turn (c .before .before .before .before) in let w = c .before .before .before .before .before .before .before .before .before .before .pre .fit in omega arith
 
-slice-read-order : tie.Need-slice-read-order Inv-loop μ-loop
-slice-read-order c = let f = at-turn (c .before .before .before .before .before) in let w = c .before .before .before .before .before .before .before .before .before .before .before .pre .fit in omega arith
+slice-read-t21 : tie.Need-slice-read-t21 Inv-loop μ-loop
+slice-read-t21 c = let f = at-turn (c .before .before .before .before .before) in let w = c .before .before .before .before .before .before .before .before .before .before .before .pre .fit in omega arith
 
 mul-put-hidden : tie.Need-mul-put-hidden Inv-loop μ-loop
 mul-put-hidden c = let f = at-turn (c .before .before .before .before .before) in let w = c .before .before .before .before .before .before .before .before .before .before .before .pre .fit in omega arith
@@ -229,8 +229,8 @@ keep-below-spec =
     word-requires-2
     flow-at-requires
     enum-told
-    mul-order
-    slice-read-order
+    mul-t19
+    slice-read-t21
     mul-put-hidden
     sub-put-hidden
     part-put-hidden-start

@@ -6,12 +6,12 @@ use Rattle.widths.proofs.available_inside.Tie as tie
 inset-across-requires : tie.Need-inset-across-requires
 inset-across-requires c κs = search needs
 
-less-requires : tie.Need-less-requires
-less-requires c κs = search needs
+maybe-sub-requires : tie.Need-maybe-sub-requires
+maybe-sub-requires c κs = search needs
 
 returns : tie.Need-returns
 unfolding spaceIn
-returns c = rw (c .less .ensures, c .before .inset-across .ensures)
+returns c = rw (c .maybe-sub .ensures, c .before .inset-across .ensures)
 
 pub available-inside-spec : {M : Type 1} → statement M
-available-inside-spec = tie.close (tie.spec inset-across-requires less-requires returns)
+available-inside-spec = tie.close (tie.spec inset-across-requires maybe-sub-requires returns)

@@ -12,8 +12,8 @@ enum-told-2 c = search needs
 enum-told-3 : tie.Need-enum-told-3
 enum-told-3 c = search needs
 
-sizing-of-requires : tie.Need-sizing-of-requires
-sizing-of-requires c κs = search needs
+sizing-without-height-basis-requires : tie.Need-sizing-without-height-basis-requires
+sizing-without-height-basis-requires c κs = search needs
 
 into-option-requires : tie.Need-into-option-requires
 into-option-requires c κs = search needs
@@ -34,7 +34,7 @@ returns-2 c = rw (c .enum-told2 .given .1)
 
 returns-3 : tie.Need-returns-3
 unfolding wantIn
-returns-3 c = rw (c .want-sized .ensures, c .before .side-margins .ensures, c .before .before .into-option .ensures, c .before .before .before .sizing-of .ensures, c .before .before .before .before .enum-told3 .given .1)
+returns-3 c = rw (c .want-sized .ensures, c .before .side-margins .ensures, c .before .before .into-option .ensures, c .before .before .before .sizing-without-height-basis .ensures, c .before .before .before .before .enum-told3 .given .1)
 
 pub want-in-spec : {M : Type 1} → statement M
 want-in-spec =
@@ -43,7 +43,7 @@ want-in-spec =
     enum-told
     enum-told-2
     enum-told-3
-    sizing-of-requires
+    sizing-without-height-basis-requires
     into-option-requires
     side-margins-requires
     want-sized-requires

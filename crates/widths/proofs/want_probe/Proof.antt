@@ -3,15 +3,15 @@ use borrow.Author.Needs.{needs}
 use Rattle.widths.proofs.want_probe.Statement.{statement}
 use Rattle.widths.proofs.want_probe.Tie as tie
 
-clamp-requires : tie.Need-clamp-requires
-clamp-requires c κs = search needs
+maybe-clamp-requires : tie.Need-maybe-clamp-requires
+maybe-clamp-requires c κs = search needs
 
-less-requires : tie.Need-less-requires
-less-requires c κs = search needs
+maybe-sub-requires : tie.Need-maybe-sub-requires
+maybe-sub-requires c κs = search needs
 
 returns : tie.Need-returns
 unfolding wantBy
-returns c = rw (c .less .ensures, c .before .clamp .ensures)
+returns c = rw (c .maybe-sub .ensures, c .before .maybe-clamp .ensures)
 
 pub want-probe-spec : {M : Type 1} → statement M
-want-probe-spec = tie.close (tie.spec clamp-requires less-requires returns)
+want-probe-spec = tie.close (tie.spec maybe-clamp-requires maybe-sub-requires returns)

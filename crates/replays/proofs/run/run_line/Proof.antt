@@ -73,7 +73,7 @@ returns-2 c =
     let d = day (a .r .state) (now (a .words)) (now (a .numbers)) (now (a .rows)) (now (a .marks)) (now (a .pairs)) (now (a .triples)) (now (a .list)) in
     let t = c .before .before .before .before .before .before .before .before .before .before .before .before .before .before .before .before .before .before .before .before .before .step .last .1 .1 in
     let o = left (c .before .before .before .before .before .before .before .before .before .before .before .before .before .before .before .before .before .before .before .before .before .step .result) (t .0) (t .1 .0) (t .1 .1 .0) (t .1 .1 .1 .0) (t .1 .1 .1 .1 .0) (t .1 .1 .1 .1 .1 .0) (t .1 .1 .1 .1 .1 .1 .0) in
-    rw (line-one (a .n) (now (a .l)) (c .before .before .before .before .before .before .before .before .before .before .before .before .before .before .before .before .before .before .before .before .before .before .before .before .before .before .before .before .before .before .before .e .given .0 .0) (sym (c .before .before .before .before .before .before .before .before .before .before .before .before .before .before .before .before .before .before .before .before .before .before .before .before .before .before .before .before .before .before .before .before .before .event-line .ensures) ∙ c .before .before .before .before .before .before .before .before .before .before .before .before .before .before .before .before .before .before .before .before .before .before .before .before .before .before .before .before .before .before .before .e .given .1)) (ran-one (c .before .before .before .before .before .before .before .before .before .before .before .before .before .before .before .before .before .before .before .before .before .before .before .before .before .before .before .before .before .before .before .e .given .0 .0) d o (pen (now (a .out)) (a .r .at)) (pen (c .before .before .put-answer .last .0) (c .before .before .put-answer .result)) (c .before .before .before .before .before .before .before .before .before .before .before .before .before .before .before .before .before .before .before .before .before .step .ensures) (rw (← c .before .before .before .before .number-of .ensures, ← c .before .before .before .place-of .ensures) (c .before .before .put-answer .ensures)))
+    rw (line-one (a .n) (now (a .l)) (c .before .before .before .before .before .before .before .before .before .before .before .before .before .before .before .before .before .before .before .before .before .before .before .before .before .before .before .before .before .before .before .e .given .0 .0) (sym (c .before .before .before .before .before .before .before .before .before .before .before .before .before .before .before .before .before .before .before .before .before .before .before .before .before .before .before .before .before .before .before .before .before .event-line .ensures) ∙ c .before .before .before .before .before .before .before .before .before .before .before .before .before .before .before .before .before .before .before .before .before .before .before .before .before .before .before .before .before .before .before .e .given .1)) (ran-one (c .before .before .before .before .before .before .before .before .before .before .before .before .before .before .before .before .before .before .before .before .before .before .before .before .before .before .before .before .before .before .before .e .given .0 .0) d o (pen (now (a .out)) (a .r .at)) (pen (c .before .before .put-answer .last .0) (c .before .before .put-answer .result)) (c .before .before .before .before .before .before .before .before .before .before .before .before .before .before .before .before .before .before .before .before .before .step .ensures .left-is) (rw (← c .before .before .before .before .number-of .ensures, ← c .before .before .before .place-of .ensures) (c .before .before .put-answer .ensures)))
 
 pub run-line-spec : {M : Type 1} → statement M
 run-line-spec =

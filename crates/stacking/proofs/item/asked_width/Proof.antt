@@ -3,8 +3,8 @@ use borrow.Author.Needs.{needs}
 use Rattle.stacking.proofs.item.asked_width.Statement.{statement}
 use Rattle.stacking.proofs.item.asked_width.Tie as tie
 
-inner-width-requires : tie.Need-inner-width-requires
-inner-width-requires c κs = search needs
+container-inner-width-requires : tie.Need-container-inner-width-requires
+container-inner-width-requires c κs = search needs
 
 horizontal-axis-sum-requires : tie.Need-horizontal-axis-sum-requires
 horizontal-axis-sum-requires c κs = search needs
@@ -23,13 +23,13 @@ f32-max-requires c κs = search needs
 
 returns : tie.Need-returns
 unfolding askedWidth
-returns c = rw (c .f32-max .ensures, c .before .horizontal-axis-sum2 .ensures, c .before .before .maybe-clamp .ensures, c .before .before .before .unwrap-or .ensures, c .before .before .before .before .horizontal-axis-sum .ensures, c .before .before .before .before .before .inner-width .ensures)
+returns c = rw (c .f32-max .ensures, c .before .horizontal-axis-sum2 .ensures, c .before .before .maybe-clamp .ensures, c .before .before .before .unwrap-or .ensures, c .before .before .before .before .horizontal-axis-sum .ensures, c .before .before .before .before .before .container-inner-width .ensures)
 
 pub asked-width-spec : {M : Type 1} → statement M
 asked-width-spec =
     tie.close
     (tie.spec
-    inner-width-requires
+    container-inner-width-requires
     horizontal-axis-sum-requires
     unwrap-or-requires
     maybe-clamp-requires

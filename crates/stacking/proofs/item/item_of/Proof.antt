@@ -13,14 +13,14 @@ position-of-requires c κs = search needs
 inset-requires : tie.Need-inset-requires
 inset-requires c κs = search needs
 
-inner-width-requires : tie.Need-inner-width-requires
-inner-width-requires c κs = search needs
+container-inner-width-requires : tie.Need-container-inner-width-requires
+container-inner-width-requires c κs = search needs
 
-sizing-in-requires : tie.Need-sizing-in-requires
-sizing-in-requires c κs = search needs
+sizing-of-requires : tie.Need-sizing-of-requires
+sizing-of-requires c κs = search needs
 
-resolve-sides-requires : tie.Need-resolve-sides-requires
-resolve-sides-requires c κs = search needs
+resolve-or-zero-requires : tie.Need-resolve-or-zero-requires
+resolve-or-zero-requires c κs = search needs
 
 is-auto-requires : tie.Need-is-auto-requires
 is-auto-requires c κs = search needs
@@ -33,7 +33,7 @@ offset-by-requires c κs = search needs
 
 returns : tie.Need-returns
 unfolding itemOf styleIn
-returns c = rw (c .offset-by .ensures, c .before .is-auto2 .ensures, c .before .before .is-auto .ensures, c .before .before .before .resolve-sides .ensures, c .before .before .before .before .sizing-in .ensures) (rw (c .before .before .before .before .before .inner-width .ensures, c .before .before .before .before .before .before .inset .ensures, c .before .before .before .before .before .before .before .position-of .ensures, c .before .before .before .before .before .before .before .before .margin .ensures))
+returns c = rw (c .offset-by .ensures, c .before .is-auto2 .ensures, c .before .before .is-auto .ensures, c .before .before .before .resolve-or-zero .ensures, c .before .before .before .before .sizing-of .ensures) (rw (c .before .before .before .before .before .container-inner-width .ensures, c .before .before .before .before .before .before .inset .ensures, c .before .before .before .before .before .before .before .position-of .ensures, c .before .before .before .before .before .before .before .before .margin .ensures))
 
 pub item-of-spec : {M : Type 1} → statement M
 item-of-spec =
@@ -42,9 +42,9 @@ item-of-spec =
     margin-requires
     position-of-requires
     inset-requires
-    inner-width-requires
-    sizing-in-requires
-    resolve-sides-requires
+    container-inner-width-requires
+    sizing-of-requires
+    resolve-or-zero-requires
     is-auto-requires
     is-auto-requires-2
     offset-by-requires

@@ -1,0 +1,47 @@
+use mathlib.Core.Path.{refl}
+use Rattle.steps.specs.Kept.{laidBits}
+use borrow.Author.Needs.{needs}
+use Rattle.rows.proofs.laid_bits.Statement.{statement}
+use Rattle.rows.proofs.laid_bits.Tie as tie
+
+mul-result : tie.Need-mul-result
+mul-result c = search needs
+
+add-result : tie.Need-add-result
+add-result c = search needs
+
+mul-result-2 : tie.Need-mul-result-2
+mul-result-2 c = search needs
+
+add-result-2 : tie.Need-add-result-2
+add-result-2 c = search needs
+
+mul-result-3 : tie.Need-mul-result-3
+mul-result-3 c = search needs
+
+add-result-3 : tie.Need-add-result-3
+add-result-3 c = search needs
+
+mul-result-4 : tie.Need-mul-result-4
+mul-result-4 c = search needs
+
+add-result-4 : tie.Need-add-result-4
+add-result-4 c = search needs
+
+returns : tie.Need-returns
+unfolding laidBits
+returns c = refl
+
+pub laid-bits-spec : {M : Type 1} → statement M
+laid-bits-spec =
+    tie.close
+    (tie.spec
+    mul-result
+    add-result
+    mul-result-2
+    add-result-2
+    mul-result-3
+    add-result-3
+    mul-result-4
+    add-result-4
+    returns)
