@@ -1,4 +1,4 @@
-# Turns the proved module, LLVM's text for x86-64, into one for a 32-bit target:
+# Turns the module made of the proved source, LLVM's text for x86-64, into one for a 32-bit target:
 #   awk -v layout=.. -v triple=.. -v small=.. -f convert.awk IN > OUT
 # It changes three lines: the data layout, the triple, and the attributes, which name an x86 processor
 # and a stack probe that other targets lack, and take what small says instead: empty, or that the code

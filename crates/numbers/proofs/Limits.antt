@@ -1,4 +1,4 @@
--- Test 4 of one length: a fraction's limits lie within those of pixels, so the unit counts past them alone. Assumes nothing.
+-- Test 4 of one length: 0 to 1 lies within the limits of every field and unit, so these count past it alone. Assumes nothing.
 use mathlib.Core.Path.{_≡_, refl, sym, _∙_}
 use mathlib.Core.Bool.{Bool, true, false, cond, not, _&&_, true≢false, false≢true}
 use Prim.Native.Nat.{ℕ}
@@ -76,7 +76,7 @@ wider false x e = both (le zeroF x) (le x oneF) _ _ (λ h. h) (most-farther x on
 
 module _ (f unit : ℕ) (x : Float) where
   -- within a fraction's limits: good, whatever the unit
-  pub good-within : inRange x (cond (signed f) (neg oneF) zeroF) oneF ≡ true → false ≡ badField f unit x
+  good-within : inRange x (cond (signed f) (neg oneF) zeroF) oneF ≡ true → false ≡ badField f unit x
   unfolding badField mostOf
   good-within e = go (eqb unit 2) refl
     where
@@ -84,11 +84,11 @@ module _ (f unit : ℕ) (x : Float) where
       go true h = rw (h, e)
       go false h = rw (h, wider (signed f) x e)
 
-  -- past them a fraction is bad, and pixels are by their own
-  pub bad-fraction : inRange x (cond (signed f) (neg oneF) zeroF) oneF ≡ false → eqb unit 2 ≡ true → true ≡ badField f unit x
-  unfolding badField mostOf
-  bad-fraction e h = rw (h, e)
-
-  pub by-pixels : eqb unit 2 ≡ false → not (inRange x (cond (signed f) (neg mostPixels) zeroF) mostPixels) ≡ badField f unit x
-  unfolding badField mostOf
-  by-pixels h = rw h
+  -- from 0 to 1: whatever the field too
+  pub good-between : inRange x zeroF oneF ≡ true → false ≡ badField f unit x
+  unfolding inRange
+  good-between e = good-within (between (signed f) e)
+    where
+      between : (s : Bool) → inRange x zeroF oneF ≡ true → inRange x (cond s (neg oneF) zeroF) oneF ≡ true
+      between true h = both (le zeroF x) (le x oneF) _ _ (least-farther x zeroF (neg oneF) one-zero) (λ k. k) h
+      between false h = h

@@ -7,7 +7,7 @@ ghost use Rattle.geometry.specs.Geometry.{zeroF};
 ghost use Rattle.style.specs.Style.{wordAt, planeOf, numberAt};
 ghost use Rattle.steps.specs.Scan.{scan, lowest, some};
 ghost use Rattle.steps.specs.Page.{nodesIn};
-ghost use Rattle.steps.specs.Noes.{signed, badField, badPixels, badRatio, badNumbers, badOption, badQuestion, no4};
+ghost use Rattle.steps.specs.Noes.{signed, mostOf, badField, badPixels, badRatio, badNumbers, badOption, badQuestion, no4};
 ghost use Rattle.numbers.specs.Fields.{badFieldAt};
 use limits::in_range;
 use steps::Answer;
@@ -53,6 +53,13 @@ fn signed(f: usize) -> bool
     f < style::LENGTHS
 }
 
+// 4: the most that a length of this unit may be.
+fn most_of(unit: u32) -> f32
+    ensures { λ r. ⌜ r ≡ mostOf unit ⌝ }
+{
+    if unit == 2 { 1.0 } else { 65536.0 }
+}
+
 // 4: the least that goes with the most of field f.
 fn least_of(f: usize, most: f32) -> f32
     ensures { λ r. ⌜ r ≡ cond (signed f) (neg most) zeroF ⌝ }
@@ -60,17 +67,15 @@ fn least_of(f: usize, most: f32) -> f32
     if signed(f) { -most } else { 0.0 }
 }
 
-// 4: field f. A fraction's limits lie within those of pixels, and so do most numbers: the unit is asked of the others.
+// 4: field f. From 0 to 1 a length is good whatever its field and unit, and most are there: the others are asked for both.
 fn bad_field(f: usize, unit: u32, x: f32) -> bool
     ensures { λ r. ⌜ r ≡ badField f unit x ⌝ }
 {
-    if in_range(x, least_of(f, 1.0), 1.0) {
+    if in_range(x, 0.0, 1.0) {
         return false;
     }
-    if unit == 2 {
-        return true;
-    }
-    !in_range(x, least_of(f, 65536.0), 65536.0)
+    let most = most_of(unit);
+    !in_range(x, least_of(f, most), most)
 }
 
 // 4: one of node i's fields from .. to.
