@@ -1,4 +1,6 @@
 // Where align-content moves the content (compute_block_align_content_offset of the crate's src/compute/block.rs, with its fallback from common/alignment.rs).
+#![tactic(auto)]
+
 ghost use Rattle.std.specs.Prelude.{◌≡◌};
 ghost use Rattle.alignment.specs.Align.{room_of, align_shift};
 

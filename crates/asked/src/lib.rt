@@ -1,4 +1,6 @@
 // What C asks by plain numbers, and an answer as one word of two halves.
+#![tactic(auto)]
+
 ghost use Rattle.std.specs.Prelude.{◌≡◌, ◌≤◌};
 ghost use Rattle.steps.specs.Noes.{paper};
 ghost use Rattle.index.specs.Index.{index_paper};

@@ -1,4 +1,6 @@
 // The candidate list, from finished rows.
+#![tactic(auto)]
+
 ghost use Rattle.std.specs.Prelude.{◌≡◌, ◌*◌, ◌≤◌, length};
 ghost use Rattle.candidates.specs.Gathered.{AllMoved, GivenT, GivenF, GathersT, GathersF, RoomOne, RecordPut};
 

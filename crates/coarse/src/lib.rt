@@ -1,4 +1,6 @@
 // The coarse panel: each laid node as a box of whole pixels.
+#![tactic(auto)]
+
 ghost use Rattle.std.specs.Prelude.{◌≡◌, ◌||◌, ◌+◌, ◌*◌, ◌<◌, ◌≤◌, length};
 ghost use Rattle.steps.specs.Scan.{lowest};
 ghost use Rattle.steps.specs.Page.{nodes_in};
@@ -18,7 +20,7 @@ use style::{flag, word};
 use tree::NodeId;
 
 // What coarse answers: the boxes are there, one of the earlier noes, or 12 with its node.
-#[derive(Drop)]
+#[derive(Clone, Copy)]
 pub enum CoarseAnswer {
     Shown,
     Refused(Answer),
@@ -26,7 +28,7 @@ pub enum CoarseAnswer {
 }
 
 // A box in whole pixels.
-#[derive(Drop)]
+#[derive(Clone, Copy)]
 pub struct PixelBox {
     pub x: i32,
     pub y: i32,
@@ -35,7 +37,7 @@ pub struct PixelBox {
 }
 
 // A node along one axis in whole pixels; zeros where an edge is too large.
-#[derive(Drop)]
+#[derive(Clone, Copy)]
 pub struct PixelSpan {
     pub far: bool,
     pub near: i32,
@@ -43,7 +45,7 @@ pub struct PixelSpan {
 }
 
 // A node: whether 12 is due of it, and its box.
-#[derive(Drop)]
+#[derive(Clone, Copy)]
 pub struct Seen {
     pub far: bool,
     pub place: PixelBox,

@@ -1,2 +1,4 @@
 // The coarse panel after a relayout: theorems in specs/.
+#![tactic(auto)]
+
 pub const REQUEST: u32 = 13;

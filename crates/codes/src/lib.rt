@@ -1,4 +1,6 @@
 // Test 3: the codes and units of a node.
+#![tactic(auto)]
+
 ghost use Rattle.std.specs.Prelude.{◌≡◌, ◌≤◌, ◌<◌};
 ghost use Rattle.style.specs.Codes.{unit_of};
 ghost use Rattle.steps.specs.Scan.{lowest, some};

@@ -1,4 +1,6 @@
 // The final pass, in place: containers and stacks call each other (the crate's src/compute/block.rs).
+#![tactic(auto)]
+
 ghost use Rattle.std.specs.Prelude.{◌≡◌};
 ghost use Rattle.rows.specs.Store.{OneRow};
 ghost use Rattle.steps.specs.Stack.{Counts};

@@ -1,4 +1,6 @@
 // What a display did in a day, one event at a time: an edit of its page or of its question, a relayout, a layout.
+#![tactic(auto)]
+
 ghost use Rattle.std.specs.Prelude.{◌≡◌, List, ℕ};
 ghost use Rattle.day.specs.Day.{with_numbers, asked, count_after, done_turn, day, left, layout_event, relayout_event, event_result, EventReplied};
 
@@ -9,7 +11,7 @@ use steps::{Answer, Question, number_of};
 use util::{OptionF32, OptionSize};
 
 // A number of the question.
-#[derive(Drop)]
+#[derive(Clone, Copy)]
 pub enum Ask {
     Width(OptionF32),
     Height(OptionF32),
@@ -17,7 +19,7 @@ pub enum Ask {
     Available(AvailableSpace),
 }
 
-#[derive(Drop)]
+#[derive(Clone, Copy)]
 pub enum Event {
     Number(NodeNumber),
     Word(NodeWord),
@@ -27,14 +29,14 @@ pub enum Event {
 }
 
 // The question, and how many edits the list holds.
-#[derive(Drop)]
+#[derive(Clone, Copy)]
 pub struct State {
     pub question: Question,
     pub count: usize,
 }
 
 // What an event answers, and the state after it.
-#[derive(Drop)]
+#[derive(Clone, Copy)]
 pub struct Turn {
     pub answer: Answer,
     pub state: State,

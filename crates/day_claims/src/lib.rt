@@ -1,2 +1,4 @@
 // A day of a display: theorems in specs/.
+#![tactic(auto)]
+
 pub const REQUEST: u32 = 2;

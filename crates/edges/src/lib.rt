@@ -1,4 +1,6 @@
 // Where a node's near edges stand on the page, and the tests of a call that is lent words, rows and marks alone.
+#![tactic(auto)]
+
 ghost use Rattle.std.specs.Prelude.{◌≡◌, ◌<◌};
 ghost use Rattle.edges.specs.Edges.{row_number, edge_by};
 ghost use Rattle.edges.specs.Tests.{bad_words, rows_tested};

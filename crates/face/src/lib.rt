@@ -1,4 +1,6 @@
 // The public calls for C: plain numbers and slices in, one word of two halves out.
+#![tactic(auto)]
+
 ghost use Rattle.std.specs.Prelude.{◌≡◌};
 ghost use Rattle.steps.specs.Question.{root_input};
 ghost use Rattle.steps.specs.Row.{bit};

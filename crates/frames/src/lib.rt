@@ -1,4 +1,6 @@
 // Step I: a container's frame (the crate's compute_inner up to its items).
+#![tactic(auto)]
+
 ghost use Rattle.std.specs.Prelude.{◌≡◌, not, List, ◌<◌, ◌≤◌, length, Float};
 ghost use Rattle.style.specs.Flow.{is_in};
 ghost use Rattle.style.specs.Style.{plane_of, style_at};

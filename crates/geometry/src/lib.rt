@@ -1,26 +1,28 @@
 // Float structs by value (the crate's src/geometry.rs, the part that block layout uses).
+#![tactic(auto)]
+
 ghost use Rattle.std.specs.Prelude.{◌≡◌};
 ghost use Rattle.geometry.specs.Geometry.{across, down, sum_axes, plus};
 
-#[derive(Drop)]
+#[derive(Clone, Copy)]
 pub struct Size {
     pub width: f32,
     pub height: f32,
 }
 
-#[derive(Drop)]
+#[derive(Clone, Copy)]
 pub struct Point {
     pub x: f32,
     pub y: f32,
 }
 
-#[derive(Drop)]
+#[derive(Clone, Copy)]
 pub struct Line {
     pub start: f32,
     pub end: f32,
 }
 
-#[derive(Drop)]
+#[derive(Clone, Copy)]
 pub struct Rect {
     pub top: f32,
     pub right: f32,

@@ -1,4 +1,6 @@
 // Steps K to N: a container's height and its answer (the end of the crate's compute_inner); a leaf's answer.
+#![tactic(auto)]
+
 ghost use Rattle.std.specs.Prelude.{◌≡◌, ◌||◌, ◌<◌, ◌≤◌, length};
 ghost use Rattle.style.specs.Style.{plane_of, measure_at, style_at};
 ghost use Rattle.style.specs.declared.Style.{Style};
@@ -21,7 +23,7 @@ use util::OptionF32;
 // What the stack leaves to steps L to N. Of the children, as block.rs has it: their height (step K), the set above, the set
 // below, whether all shown ones are through, the first baseline. Of the frame, which is not held while they are laid out: its
 // width and known height, the insets above and below together, the limits of its height, and what its edges do.
-#[derive(Drop)]
+#[derive(Clone, Copy)]
 pub struct StackOutput {
     pub content: f32,
     pub top: CollapsibleMarginSet,
@@ -40,7 +42,7 @@ pub struct StackOutput {
 }
 
 // What steps M and N ask of a style, with its margins resolved.
-#[derive(Drop)]
+#[derive(Clone, Copy)]
 pub struct Tail {
     pub align: AlignContent,
     pub safe: bool,

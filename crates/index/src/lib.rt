@@ -1,4 +1,6 @@
 // The vertical index of a list of leaves: their top and bottom edges on the page, and the running largest bottom for the scroll key.
+#![tactic(auto)]
+
 mod list;
 
 ghost use Rattle.std.specs.Prelude.{◌≡◌, length};
@@ -12,7 +14,7 @@ use steps::{Answer, Tested};
 use util::f32_max;
 
 // What make_index answers: made, one of the earlier noes, or 9 with its place.
-#[derive(Drop)]
+#[derive(Clone, Copy)]
 pub enum IndexAnswer {
     Made,
     Refused(Answer),

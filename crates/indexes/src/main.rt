@@ -1,4 +1,6 @@
 // Runs the cases of the vertical index that stand on standard input: words of eight hex digits, one byte between them.
+#![tactic(auto)]
+
 mod cases;
 mod show;
 

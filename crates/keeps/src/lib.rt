@@ -1,4 +1,6 @@
 // Whether the rows of a page keep their order: a yes or no by its tables alone.
+#![tactic(auto)]
+
 ghost use Rattle.std.specs.Prelude.{◌≡◌, ◌<◌};
 ghost use Rattle.style.specs.Style.{rect_at, style_at};
 ghost use Rattle.order.specs.Class.{fair, whole, still, unshifted, fair_down, whole_down, steady, keeps_order};

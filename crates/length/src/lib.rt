@@ -1,4 +1,6 @@
 // Lengths and the available width, resolved (the crate's style/dimension, style/available_space.rs and util/resolve.rs).
+#![tactic(auto)]
+
 ghost use Rattle.std.specs.Prelude.{◌≡◌};
 ghost use Rattle.length.specs.Length.{scaled, resolved, resolved_or_zero, is_auto, resolved_rect, resolved_size};
 ghost use Rattle.length.specs.Available.{available_less, definite};
@@ -6,14 +8,14 @@ ghost use Rattle.length.specs.Available.{available_less, definite};
 use geometry::Rect;
 use util::{OptionF32, OptionSize};
 
-#[derive(Drop)]
+#[derive(Clone, Copy)]
 pub enum Length {
     Auto,
     Pixels(f32),
     Fraction(f32),
 }
 
-#[derive(Drop)]
+#[derive(Clone, Copy)]
 pub struct LengthRect {
     pub top: Length,
     pub right: Length,
@@ -21,13 +23,13 @@ pub struct LengthRect {
     pub left: Length,
 }
 
-#[derive(Drop)]
+#[derive(Clone, Copy)]
 pub struct LengthSize {
     pub width: Length,
     pub height: Length,
 }
 
-#[derive(Drop)]
+#[derive(Clone, Copy)]
 pub enum AvailableSpace {
     Definite(f32),
     MinContent,

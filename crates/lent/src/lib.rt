@@ -1,4 +1,6 @@
 // Reads of lent slices that need no index in range, and the smaller of two counts.
+#![tactic(auto)]
+
 ghost use Rattle.std.specs.Prelude.{◌≡◌, min, get_or};
 ghost use Rattle.geometry.specs.Geometry.{zero_f};
 

@@ -1,4 +1,6 @@
 // One line of the page file: its key and the values after it.
+#![tactic(auto)]
+
 ghost use Rattle.std.specs.Prelude.{◌≡◌, drop};
 ghost use Rattle.text.specs.Pieces.{split, piece_at};
 ghost use Rattle.text.specs.Values.{hex_of, value_of};
@@ -9,28 +11,28 @@ use text::{Value, hex};
 use util::{OptionF32, OptionSize};
 
 // known=
-#[derive(Drop)]
+#[derive(Clone, Copy)]
 pub enum KnownLine {
     Bad,
     Is(OptionSize),
 }
 
 // One side of known=.
-#[derive(Drop)]
+#[derive(Clone, Copy)]
 pub enum Known {
     Bad,
     Is(OptionF32),
 }
 
 // avail=
-#[derive(Drop)]
+#[derive(Clone, Copy)]
 pub enum AvailLine {
     Bad,
     Is(AvailableSpace),
 }
 
 // The three flags of lines=.
-#[derive(Drop)]
+#[derive(Clone, Copy)]
 pub struct Flags {
     pub collapseStart: bool,
     pub collapseEnd: bool,
@@ -38,14 +40,14 @@ pub struct Flags {
 }
 
 // lines=
-#[derive(Drop)]
+#[derive(Clone, Copy)]
 pub enum FlagsLine {
     Bad,
     Is(Flags),
 }
 
 // The four words of a node.
-#[derive(Drop)]
+#[derive(Clone, Copy)]
 pub struct NodeWords {
     pub size: u32,
     pub style: u32,
@@ -54,21 +56,21 @@ pub struct NodeWords {
 }
 
 // node=
-#[derive(Drop)]
+#[derive(Clone, Copy)]
 pub enum NodeLine {
     Bad,
     Is(NodeWords),
 }
 
 // A field and its number.
-#[derive(Drop)]
+#[derive(Clone, Copy)]
 pub struct FieldNumber {
     pub field: u32,
     pub value: f32,
 }
 
 // num=
-#[derive(Drop)]
+#[derive(Clone, Copy)]
 pub enum NumLine {
     Bad,
     Is(FieldNumber),

@@ -1,10 +1,12 @@
 // Collapsible margins (the crate's src/tree/layout.rs).
+#![tactic(auto)]
+
 ghost use Rattle.std.specs.Prelude.{◌≡◌};
 ghost use Rattle.margin.specs.Margin.{no_margins, set_of, joined, joined_with, sum_of};
 
 use util::{f32_max, f32_min};
 
-#[derive(Drop)]
+#[derive(Clone, Copy)]
 pub struct CollapsibleMarginSet {
     pub positive: f32,
     pub negative: f32,

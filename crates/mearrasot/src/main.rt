@@ -1,4 +1,6 @@
 // Reads a page file from standard input and writes its answer to standard output. If that fails, it says so on standard error.
+#![tactic(auto)]
+
 use libc::{STDERR_FILENO, STDIN_FILENO, STDOUT_FILENO};
 
 fn main() {

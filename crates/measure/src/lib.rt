@@ -1,4 +1,6 @@
 // The size question: what a page would measure. It is lent no rows, keeps nothing and writes nothing.
+#![tactic(auto)]
+
 ghost use Rattle.std.specs.Prelude.{◌≡◌, ◌<◌, ◌≤◌, length};
 ghost use Rattle.style.specs.Style.{plane_of};
 ghost use Rattle.steps.specs.SizeQuestion.{axes};

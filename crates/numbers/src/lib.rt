@@ -1,4 +1,6 @@
 // Test 4: the numbers of a node, and those of the question.
+#![tactic(auto)]
+
 ghost use Rattle.std.specs.Prelude.{◌≡◌, true, false, cond, ◌-◌, ◌≤◌, ◌<◌};
 ghost use Rattle.std.specs.Float.Ieee.{neg};
 ghost use Rattle.geometry.specs.Geometry.{zero_f};

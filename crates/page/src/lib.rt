@@ -1,4 +1,6 @@
 // The page file: bytes to node tables and a question, or the number of the first bad or missing line.
+#![tactic(auto)]
+
 mod body;
 mod heading;
 
@@ -11,21 +13,21 @@ use lent::smaller;
 use steps::Question;
 
 // What the first five lines say: how many nodes, and the question.
-#[derive(Drop)]
+#[derive(Clone, Copy)]
 pub struct Head {
     pub count: u32,
     pub question: Question,
 }
 
 // The first five lines, or the number of a bad one.
-#[derive(Drop)]
+#[derive(Clone, Copy)]
 pub enum HeadLines {
     Bad(usize),
     Is(Head),
 }
 
 // What a page file holds besides its tables, or the number of its first bad line.
-#[derive(Drop)]
+#[derive(Clone, Copy)]
 pub enum PageFile {
     BadLine(usize),
     Page(Head),

@@ -1,4 +1,6 @@
 // A page file in, the answer as text out.
+#![tactic(auto)]
+
 ghost use Rattle.std.specs.Prelude.{◌≡◌, ◌*◌, ◌≤◌, ◌<◌, length};
 ghost use Rattle.print.specs.Pen.{pen, put_all};
 ghost use Rattle.steps.specs.Question.{root_input};

@@ -1,4 +1,6 @@
 // Two panels over one node table: an event of one of them. The other lends its list and nothing else.
+#![tactic(auto)]
+
 ghost use Rattle.std.specs.Prelude.{◌≡◌};
 ghost use Rattle.sheet.specs.Sheet.{sheet, number_edit, word_edit};
 ghost use Rattle.day.specs.Day.{day};
@@ -9,7 +11,7 @@ use sheet::{NodeNumber, NodeWord};
 use steps::Answer;
 
 // What an event answers, the state of its panel after it, and how many edits the other's list holds.
-#[derive(Drop)]
+#[derive(Clone, Copy)]
 pub struct PanelTurn {
     pub answer: Answer,
     pub state: State,

@@ -1,2 +1,4 @@
 // Theorems about percent heights, over the definitions of crate steps.
+#![tactic(auto)]
+
 pub const REQUEST: u32 = 1;

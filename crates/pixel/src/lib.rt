@@ -1,4 +1,6 @@
 // The nearest whole pixel of an edge, halves up, by the edge's bits alone.
+#![tactic(auto)]
+
 ghost use Rattle.std.specs.Prelude.{◌≡◌, false, ◌+◌, ◌*◌, ◌-◌, ◌/◌, ◌^◌, ◌<◌, ◌≤◌, ◌-ℤ◌};
 ghost use Rattle.limits.specs.Limits.{too_large};
 ghost use Rattle.pixel.specs.Pixel.{whole_pixel};

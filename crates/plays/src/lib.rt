@@ -1,4 +1,6 @@
 // Events of two panels out of words, one after the other, each with its answer on a line.
+#![tactic(auto)]
+
 ghost use Rattle.std.specs.Prelude.{◌≤◌, length};
 
 mod events;
@@ -17,7 +19,7 @@ fn show(a: Answer) {
 }
 
 // How both panels stand.
-#[derive(Drop)]
+#[derive(Clone, Copy)]
 pub struct Two {
     pub hall: State,
     pub kitchen: State,

@@ -1,4 +1,6 @@
 // The width pass, in place: probes of a container without a width, and the probe words that every row is left with.
+#![tactic(auto)]
+
 ghost use Rattle.std.specs.Prelude.{◌≡◌, ◌<◌, ◌≤◌, length};
 ghost use Rattle.style.specs.Style.{plane_of, style_at};
 ghost use Rattle.rows.specs.Store.{OneRow, Becomes, cleared_row};

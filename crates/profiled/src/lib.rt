@@ -1,4 +1,6 @@
 // The plain calls asked as profile: 1 to 4, then 11, a page that is not of the profile, then what the plain call answers.
+#![tactic(auto)]
+
 ghost use Rattle.std.specs.Prelude.{◌≡◌};
 ghost use Rattle.steps.specs.Question.{root_input};
 ghost use Rattle.steps.specs.Noes.{size_tested};
@@ -11,21 +13,21 @@ use profiles::profile_spot;
 use steps::{Answer, LayoutInput, Question, RequestedAxis, SizeAnswer, Spot, Tested, root_input};
 
 // What a call asked as profile answers: an answer of the plain calls, or 11 with its place.
-#[derive(Drop)]
+#[derive(Clone, Copy)]
 pub enum ProfileAnswer {
     Plain(Answer),
     Outside(u32),
 }
 
 // A size, or why there is none.
-#[derive(Drop)]
+#[derive(Clone, Copy)]
 pub enum ProfileSize {
     Sized(Size),
     Refused(ProfileAnswer),
 }
 
 // The tests before the plain call: a refusal, or nothing.
-#[derive(Drop)]
+#[derive(Clone, Copy)]
 pub enum ProfileTested {
     Pass,
     Refuse(ProfileAnswer),

@@ -1,4 +1,6 @@
 // The whole-pixel profile: a yes or no with its place, by the tables and the question alone.
+#![tactic(auto)]
+
 ghost use Rattle.std.specs.Prelude.{◌≡◌, not, ◌||◌, ◌<◌, eqb};
 ghost use Rattle.steps.specs.Page.{nodes_in};
 ghost use Rattle.steps.specs.Scan.{first_of, some};

@@ -1,4 +1,6 @@
 // A node's style read part by part: a step takes what it asks for, and the whole is never copied.
+#![tactic(auto)]
+
 ghost use Rattle.std.specs.Prelude.{◌≡◌, ◌<◌, ◌≤◌, length};
 ghost use Rattle.style.specs.Codes.{code_at, kind_of, length_of};
 ghost use Rattle.style.specs.Flow.{flow_at, is_leaf};
@@ -11,7 +13,7 @@ use style::Flow;
 use util::OptionF32;
 
 // A node's three words, and where its numbers stand.
-#[derive(Drop)]
+#[derive(Clone, Copy)]
 pub struct Reader {
     pub style: u32,
     pub first: u32,

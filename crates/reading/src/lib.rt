@@ -1,4 +1,6 @@
 // Test cases as text: words of eight hex digits, one byte between them, and numbers out of words.
+#![tactic(auto)]
+
 ghost use Rattle.std.specs.Prelude.{◌≤◌, length};
 
 use text::Value;

@@ -3,7 +3,7 @@ use records::{Record, layout_records, relayout_records};
 use steps::{Answer, Question};
 
 // The answer, and the records that were lent.
-#[derive(Drop)]
+#[derive(Clone, Copy)]
 pub struct Recorded {
     pub answer: Answer,
     pub records: [Record; 2],

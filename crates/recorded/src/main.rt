@@ -1,4 +1,6 @@
 // Lays out and relays a page over a slice of records, and beside it by the plain calls: the records are the plain pairs and triples.
+#![tactic(auto)]
+
 mod lay;
 mod page;
 mod show;

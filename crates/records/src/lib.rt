@@ -1,4 +1,6 @@
 // The candidate list as a slice of records. The core writes plain slices; nothing that holds a record slice goes through it.
+#![tactic(auto)]
+
 ghost use Rattle.std.specs.Prelude.{◌≡◌, ◌++◌, ◌<◌, ◌≤◌, ◌^◌, min, length, drop, get_or};
 ghost use Rattle.geometry.specs.Geometry.{zero_f};
 ghost use Rattle.steps.specs.Question.{root_input};
@@ -11,7 +13,7 @@ use steps::{Answer, Question};
 use tree::{NodeId, Order};
 
 // One candidate. Its node and its order are two counts, and so two types.
-#[derive(Drop)]
+#[derive(Clone, Copy)]
 pub struct Record {
     pub node: NodeId,
     pub order: Order,

@@ -1,4 +1,6 @@
 // Reads a trace file from standard input and writes the answer of each event and the last rows to standard output. If that fails, it says so on standard error.
+#![tactic(auto)]
+
 use libc::{STDERR_FILENO, STDIN_FILENO, STDOUT_FILENO};
 
 fn main() {

@@ -1,4 +1,6 @@
 // A trace file in, the answer of each event and the last rows as text out.
+#![tactic(auto)]
+
 mod run;
 
 ghost use Rattle.std.specs.Prelude.{◌≡◌, ◌*◌, ◌≤◌, length, drop};
@@ -21,7 +23,7 @@ use steps::Question;
 const FIELDS: usize = 28;
 
 // The state, and where the next byte of the output goes.
-#[derive(Drop)]
+#[derive(Clone, Copy)]
 pub struct Ran {
     pub state: State,
     pub at: usize,

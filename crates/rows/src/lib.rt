@@ -1,4 +1,6 @@
 // Result rows in lent memory: 16 numbers and two words a node.
+#![tactic(auto)]
+
 ghost use Rattle.std.specs.Prelude.{◌≡◌, cond, ◌&&◌, ◌++◌, ◌+◌, ◌-◌, ◌*◌, ◌/◌, ◌%◌, ◌≤◌, ◌<◌, length, replicate};
 ghost use Rattle.std.specs.Bool.{beq};
 ghost use Rattle.geometry.specs.Geometry.{zero_f};

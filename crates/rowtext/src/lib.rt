@@ -1,4 +1,6 @@
 // The rows of a page as text, a line for each node: its order, its bits and its sixteen numbers.
+#![tactic(auto)]
+
 ghost use Rattle.std.specs.Prelude.{◌≡◌, ◌<◌};
 ghost use Rattle.print.specs.Pen.{pen, put_all};
 ghost use Rattle.print.specs.Text.{each};

@@ -1,4 +1,6 @@
 // Are two answers the same, to the last bit?
+#![tactic(auto)]
+
 ghost use Rattle.std.specs.Prelude.{◌≡◌, true};
 
 use steps::{Answer, number_of, place_of};

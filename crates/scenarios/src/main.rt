@@ -1,4 +1,6 @@
 // What a relayout leaves beside what a fresh layout leaves, for edits of a meter's page.
+#![tactic(auto)]
+
 mod page;
 mod show;
 

@@ -1,4 +1,6 @@
 // The scroll key: the first entry of an index whose bottom edge lies beyond a line, found by halving.
+#![tactic(auto)]
+
 ghost use Rattle.std.specs.Prelude.{◌≡◌, length};
 ghost use Rattle.scroll.specs.Halving.{halved, beyond};
 ghost use Rattle.scroll.specs.Scroll.{is_finite, scroll_answer, ScrollReplied};
@@ -6,7 +8,7 @@ ghost use Rattle.scroll.specs.Scroll.{is_finite, scroll_answer, ScrollReplied};
 use limits::in_range;
 
 // What the scroll key finds: a position in the list, or that there is none.
-#[derive(Drop)]
+#[derive(Clone, Copy)]
 pub enum ScrollAnswer {
     First(usize),
     Nothing,

@@ -1,4 +1,6 @@
 // Test 2: is the table of sizes a tree's? Each child's part of the words is handed on, and the depth left falls.
+#![tactic(auto)]
+
 ghost use Rattle.std.specs.Prelude.{◌≡◌, ◌&&◌, ◌+◌, ◌≤◌, eqb, ltb};
 ghost use Rattle.style.specs.Codes.{code_at};
 ghost use Rattle.steps.specs.Scan.{lowest};

@@ -1,11 +1,13 @@
 // The page of a display and the list of its edits: a number or a word of a node anew, and its index noted.
+#![tactic(auto)]
+
 ghost use Rattle.std.specs.Prelude.{◌≡◌, List, Float};
 ghost use Rattle.sheet.specs.Sheet.{sheet, noted, number_edit, word_edit};
 
 use tree::NodeId;
 
 // A number of a node.
-#[derive(Drop)]
+#[derive(Clone, Copy)]
 pub struct NodeNumber {
     pub node: NodeId,
     pub field: u32,
@@ -13,7 +15,7 @@ pub struct NodeNumber {
 }
 
 // A word of a node.
-#[derive(Drop)]
+#[derive(Clone, Copy)]
 pub struct NodeWord {
     pub node: NodeId,
     pub word: u32,

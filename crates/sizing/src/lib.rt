@@ -1,4 +1,6 @@
 // Steps A to E of one box: its sizes and insets (the crate's compute_block_layout and the start of compute_inner).
+#![tactic(auto)]
+
 ghost use Rattle.std.specs.Prelude.{◌≡◌};
 ghost use Rattle.geometry.specs.Geometry.{across};
 ghost use Rattle.style.specs.declared.Style.{Style};

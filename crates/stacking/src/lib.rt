@@ -1,4 +1,6 @@
 // Step J: a child's place, and the cursor past it (the crate's perform_final_layout_on_in_flow_children).
+#![tactic(auto)]
+
 pub mod item;
 
 ghost use Rattle.std.specs.Prelude.{◌≡◌, cond, ◌+◌, ◌<◌};
@@ -15,7 +17,7 @@ use tree::Order;
 use util::OptionF32;
 
 // What is held of a child while it is laid out: margins (auto counts 0), which side margins are auto, the relative offset.
-#[derive(Drop)]
+#[derive(Clone, Copy)]
 pub struct Footing {
     pub margin: Rect,
     pub left: bool,
@@ -24,7 +26,7 @@ pub struct Footing {
 }
 
 // A child's question, and its footing.
-#[derive(Drop)]
+#[derive(Clone, Copy)]
 pub struct Plan {
     pub input: LayoutInput,
     pub footing: Footing,

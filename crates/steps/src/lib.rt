@@ -1,4 +1,6 @@
 // What the steps of document 01 pass on, by value. The steps themselves are definitions: specs/.
+#![tactic(auto)]
+
 ghost use Rattle.std.specs.Prelude.{◌≡◌};
 ghost use Rattle.steps.specs.Noes.{paper};
 ghost use Rattle.steps.specs.Question.{root_input};
@@ -27,7 +29,7 @@ pub const BASIS_GIVEN: u32 = 8;
 pub const BASELINE_GIVEN: u32 = 9;
 
 // What a caller asks of a page. The parent width is always a number. A known height is definite only where the caller says so.
-#[derive(Drop)]
+#[derive(Clone, Copy)]
 pub struct Question {
     pub known: OptionSize,
     pub parent: f32,
@@ -38,7 +40,7 @@ pub struct Question {
 }
 
 // A final question. `basis` is what a fraction of a height is a part of. Two flags say which margins may collapse; `nested` is false at the root alone.
-#[derive(Drop)]
+#[derive(Clone, Copy)]
 pub struct LayoutInput {
     pub known: OptionSize,
     pub parent: OptionF32,
@@ -51,7 +53,7 @@ pub struct LayoutInput {
 }
 
 // Its answer. `baseline` is the first one at or below the box, measured from its top.
-#[derive(Drop)]
+#[derive(Clone, Copy)]
 pub struct LayoutOutput {
     pub size: Size,
     pub top: CollapsibleMarginSet,
@@ -61,14 +63,14 @@ pub struct LayoutOutput {
 }
 
 // A probe: width only, no width known, no parent width.
-#[derive(Drop)]
+#[derive(Clone, Copy)]
 pub struct ProbeInput {
     pub height: OptionF32,
     pub available: AvailableSpace,
 }
 
 // Step A of a box, against one basis. `both` is padding+border side by side.
-#[derive(Drop)]
+#[derive(Clone, Copy)]
 pub struct Sizing {
     pub padding: Rect,
     pub border: Rect,
@@ -79,7 +81,7 @@ pub struct Sizing {
 }
 
 // What step F wants of a child: nothing, its outer width, or a probe.
-#[derive(Drop)]
+#[derive(Clone, Copy)]
 pub enum Want {
     Nothing,
     Outer(f32),
@@ -87,7 +89,7 @@ pub enum Want {
 }
 
 // A container after steps A to I: its outer width and known height, the insets, the limits of its height, and what its edges do.
-#[derive(Drop)]
+#[derive(Clone, Copy)]
 pub struct Frame {
     pub width: f32,
     pub height: OptionF32,
@@ -103,7 +105,7 @@ pub struct Frame {
 }
 
 // A child of the stack: step E's numbers, margins (auto counts 0), which side margins are auto, the relative offset.
-#[derive(Drop)]
+#[derive(Clone, Copy)]
 pub struct BlockItem {
     pub sizing: Sizing,
     pub margin: Rect,
@@ -113,7 +115,7 @@ pub struct BlockItem {
 }
 
 // Where the stack stands: y, the strut, the top set, still at the top, all shown children through so far, the first baseline, and two counts of siblings.
-#[derive(Drop)]
+#[derive(Clone, Copy)]
 pub struct Cursor {
     pub y: f32,
     pub strut: CollapsibleMarginSet,
@@ -126,14 +128,14 @@ pub struct Cursor {
 }
 
 // A container after steps K to N.
-#[derive(Drop)]
+#[derive(Clone, Copy)]
 pub struct Finished {
     pub output: LayoutOutput,
     pub shift: OptionF32,
 }
 
 // What a layout or a relayout answers.
-#[derive(Drop)]
+#[derive(Clone, Copy)]
 pub enum Answer {
     Done(u32),
     Lengths,
@@ -147,35 +149,35 @@ pub enum Answer {
 }
 
 // What a size question answers.
-#[derive(Drop)]
+#[derive(Clone, Copy)]
 pub enum SizeAnswer {
     Sized(Size),
     Refused(Answer),
 }
 
 // The tests before any write.
-#[derive(Drop)]
+#[derive(Clone, Copy)]
 pub enum Tested {
     Pass,
     Refuse(Answer),
 }
 
 // The lowest node at fault.
-#[derive(Drop)]
+#[derive(Clone, Copy)]
 pub enum Found {
     Nowhere,
     At(NodeId),
 }
 
 // The first index of a list that is at fault.
-#[derive(Drop)]
+#[derive(Clone, Copy)]
 pub enum Spot {
     Nowhere,
     At(u32),
 }
 
 // Which size a size question wants.
-#[derive(Drop)]
+#[derive(Clone, Copy)]
 pub enum RequestedAxis {
     Horizontal,
     Both,

@@ -1,4 +1,6 @@
 // A node's style out of its words and numbers (the crate's src/style/*.rs).
+#![tactic(auto)]
+
 mod decode;
 
 ghost use Rattle.std.specs.Prelude.{◌≡◌, ◌+◌, ◌*◌, ◌^◌, ◌<◌, ◌≤◌, length};
@@ -82,14 +84,14 @@ pub const HEIGHT: usize = 26;
 
 pub const FIRST_BASELINE: usize = 27;
 
-#[derive(Drop)]
+#[derive(Clone, Copy)]
 pub enum Kind {
     Block,
     Leaf,
     Hidden,
 }
 
-#[derive(Drop)]
+#[derive(Clone, Copy)]
 pub enum Position {
     Static,
     Relative,
@@ -97,14 +99,14 @@ pub enum Position {
 }
 
 // How a node takes part: not at all, as a candidate, in the stack.
-#[derive(Drop)]
+#[derive(Clone, Copy)]
 pub enum Flow {
     Gone,
     Out,
     In,
 }
 
-#[derive(Drop)]
+#[derive(Clone, Copy)]
 pub enum Overflow {
     Visible,
     Clip,
@@ -112,7 +114,7 @@ pub enum Overflow {
     Scroll,
 }
 
-#[derive(Drop)]
+#[derive(Clone, Copy)]
 pub enum AlignContent {
     Normal,
     Start,
@@ -124,14 +126,14 @@ pub enum AlignContent {
     Stretch,
 }
 
-#[derive(Drop)]
+#[derive(Clone, Copy)]
 pub struct OverflowXY {
     pub x: Overflow,
     pub y: Overflow,
 }
 
 // A leaf's table: its widths under min-content and max-content, its height, and the first baseline that it shows.
-#[derive(Drop)]
+#[derive(Clone, Copy)]
 pub struct Measure {
     pub least: f32,
     pub most: f32,
@@ -140,7 +142,7 @@ pub struct Measure {
 }
 
 // The whole of it. No code builds one: each step reads the part that it asks for, and the definitions speak of the whole.
-#[derive(Drop)]
+#[derive(Clone, Copy)]
 pub struct Style {
     pub kind: Kind,
     pub content: bool,

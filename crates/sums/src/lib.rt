@@ -1,2 +1,4 @@
 // Laws of sums of floats: order, zeros, signs. No code.
+#![tactic(auto)]
+
 pub const ROUNDINGS: u32 = 1;

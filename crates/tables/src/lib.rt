@@ -1,4 +1,6 @@
 // The tests before any write: whatever words and numbers arrive, the first refusal that is due, and its place.
+#![tactic(auto)]
+
 mod edits;
 mod needed;
 

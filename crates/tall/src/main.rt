@@ -1,4 +1,6 @@
 // Runs the tallest page: a root with 256 boxes of 65,536 pixels, the last of them first a pixel lower.
+#![tactic(auto)]
+
 ghost use Rattle.std.specs.Prelude.{◌<◌};
 
 use length::AvailableSpace;

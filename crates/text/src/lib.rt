@@ -1,4 +1,6 @@
 // Pieces of a text, and the numbers that are written in them.
+#![tactic(auto)]
+
 ghost use Rattle.std.specs.Prelude.{◌≡◌, [], ◌+◌, ◌≤◌, length, get_or};
 ghost use Rattle.std.specs.Float.{binary32};
 ghost use Rattle.std.specs.Float.Ieee.{to_bits};
@@ -8,7 +10,7 @@ ghost use Rattle.text.specs.Values.{digit_of, value_of, hex_of, float_of, number
 use util::OptionF32;
 
 // A number as written, or no such number.
-#[derive(Drop)]
+#[derive(Clone, Copy)]
 pub enum Value {
     Bad,
     Is(u32),

@@ -1,4 +1,6 @@
 // The trace file: a page file, then a line that says how many events there are, then a line for each.
+#![tactic(auto)]
+
 mod asks;
 mod check;
 mod edits;
@@ -17,14 +19,14 @@ use lent::smaller;
 use page::PageFile;
 
 // An event, or a line that is none.
-#[derive(Drop)]
+#[derive(Clone, Copy)]
 pub enum EventLine {
     Bad,
     Is(Event),
 }
 
 // Where the line events= starts, and its number.
-#[derive(Drop)]
+#[derive(Clone, Copy)]
 pub struct Start {
     pub at: usize,
     pub line: usize,

@@ -1,17 +1,19 @@
 // larger and smaller, and arithmetic on numbers that may be missing (the crate's src/util/sys.rs and its MaybeMath).
+#![tactic(auto)]
+
 ghost use Rattle.std.specs.Prelude.{◌≡◌, cond};
 ghost use Rattle.util.specs.Math.{larger, smaller, capped, floored, clamped};
 ghost use Rattle.util.specs.Maybe.{or_zero, unwrap_or, or_else, is_some, add_opt, sub_opt, clamp_opt, floor_opt, ratio_width, ratio_height, ratio_fills, add_size};
 
 use geometry::Size;
 
-#[derive(Drop)]
+#[derive(Clone, Copy)]
 pub enum OptionF32 {
     None,
     Some(f32),
 }
 
-#[derive(Drop)]
+#[derive(Clone, Copy)]
 pub struct OptionSize {
     pub width: OptionF32,
     pub height: OptionF32,

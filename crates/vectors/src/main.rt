@@ -1,4 +1,6 @@
 // Runs the pages that stand on standard input, each ended by a mark, and writes what each gives.
+#![tactic(auto)]
+
 ghost use Rattle.std.specs.Prelude.{◌≤◌, length};
 
 use libc::{STDIN_FILENO, STDOUT_FILENO};

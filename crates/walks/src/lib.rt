@@ -1,4 +1,6 @@
 // Walks over the rows of a run: step M, and what stands below a kept node.
+#![tactic(auto)]
+
 ghost use Rattle.std.specs.Prelude.{◌≡◌, ◌||◌};
 ghost use Rattle.style.specs.Codes.{flag_at};
 ghost use Rattle.walks.specs.Tables.{IsRows, LoweredRows, IsBelow, KeptBelow, lowered_y};

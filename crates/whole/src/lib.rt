@@ -1,4 +1,6 @@
 // Whole numbers in f32: the test for one up to 1024 in size.
+#![tactic(auto)]
+
 ghost use Rattle.std.specs.Prelude.{◌≡◌};
 ghost use Rattle.whole.specs.Test.{pixel};
 

@@ -1,4 +1,6 @@
 // Step F: what an unknown width wants of the children (the crate's determine_content_based_container_width), and a leaf's width.
+#![tactic(auto)]
+
 ghost use Rattle.std.specs.Prelude.{◌≡◌, ◌<◌, ◌≤◌, length};
 ghost use Rattle.style.specs.Style.{plane_of, style_at};
 ghost use Rattle.geometry.specs.Geometry.{across};

@@ -1,0 +1,246 @@
+#!/usr/bin/env python3
+"""Turns a crate's Proof.antt files of the older form (answers to a tie's needs, by places) into Answers.antt and Invariants.antt.
+
+usage: python3 tools/port/answers.py NAMES.json CRATE_FOLDER [FUNCTION..]
+
+NAMES.json is what `rt check --generated DIR --old-names` writes in the crate. A file that cites places as types is left.
+"""
+
+import json
+import os
+import re
+import sys
+
+W = r"[^\s(){}.;,@\"«»\[\]\\]+"
+plain = lambda s: re.sub("-+", "-", s.replace("_", "-"))
+TRIVIAL = {"search rules", "omega arith", "tt", "refl", "(search rules)"}
+
+
+class Left(Exception):
+    pass
+
+
+def blocks(text):
+    """Top-level items: (comment lines, lines)."""
+    out, com, cur = [], [], []
+    for line in text.split("\n"):
+        if line.startswith("--") or not line.strip():
+            if cur:
+                if not line.strip():
+                    cur.append(line)
+                    continue
+                out.append((com, cur))
+                com, cur = [], []
+            if line.startswith("--"):
+                com.append(line)
+            elif com:
+                com.append(line)
+            continue
+        if line[0].isspace():
+            cur.append(line)
+            continue
+        word = line.split()[0]
+        if word in ("abbrev", "unfoldable", "pub"):
+            word = next((w for w in line.split() if w not in ("abbrev", "unfoldable", "pub")), word)
+        if cur and (cur_name == word and word != "use" or word == "unfolding"):
+            cur.append(line)
+            continue
+        if cur:
+            out.append((com, cur))
+            com, cur = [], []
+        cur, cur_name = [line], word
+    if cur:
+        out.append((com, cur))
+    return out
+
+
+def item(lines):
+    """Name, signature, unfolding lines, equations."""
+    while lines and not lines[-1].strip():
+        lines = lines[:-1]
+    m = re.match(r"^((?:abbrev |unfoldable |pub )*)(\S+)\s*(.*)$", lines[0])
+    mark, name = m[1], m[2]
+    sig, unf, eqs = [lines[0]], [], []
+    for line in lines[1:]:
+        if line.startswith("unfolding"):
+            unf.append(line)
+        elif line.split() and line.split()[0] == name and not line[0].isspace():
+            eqs.append(line)
+        elif eqs:
+            eqs.append(line)
+        elif unf:
+            unf.append(line)
+        else:
+            sig.append(line)
+    return mark, name, "\n".join(sig), unf, "\n".join(eqs)
+
+
+class Fn:
+    def __init__(self, of):
+        self.of = of
+        self.places = {p[0]: (i, p) for i, p in enumerate(of["places"])}
+        self.goals = {}
+        for (old, new), at in zip(of["needs"], of["asked_at"]):
+            self.goals[plain(old)] = (new, at[0])
+
+    def goal(self, word):
+        w = plain(word)
+        for cut in ("", "overflow-", "nonzero-"):
+            if w.startswith(cut) and w[len(cut):] in self.goals:
+                return self.goals[w[len(cut):]]
+        return None
+
+    def chain(self, place):
+        out = []
+        while place is not None:
+            i, p = self.places[place]
+            out.append((i, p))
+            place = p[1]
+        return out
+
+    def path(self, chain, words):
+        """The words after c, of a term c.before..X.Y, in the new form; the number of words used and the new words."""
+        k = 0
+        while k < len(words) and words[k] == "before":
+            k += 1
+        if k >= len(chain) or k >= len(words):
+            raise Left("a place by itself: c." + ".".join(words))
+        i, p = chain[k]
+        step = words[k]
+        rest = words[k + 1 :]
+        if step in ("args", "requires", "ranges", "utf8", "well_formed", "type_inv"):
+            return [step] + rest
+        old, new = p[2]
+        if plain(step) != plain(old):
+            if step == "given" or p[1] is None:
+                return [step] + rest
+            # (a name that stands in both forms)
+            if step in ("loop",) and old.startswith("loop"):
+                pass
+            else:
+                raise Left(f"step {step} is not {old}")
+        # arms of later places name it
+        for j in range(k, -1, -1):
+            arm = self.of["arms"][chain[j][0]]
+            if not arm:
+                continue
+            for field, of_step, of_path in arm[2]:
+                if plain(of_step) == plain(old) and rest[: len(of_path)] == of_path and of_path:
+                    return [arm[0], field] + rest[len(of_path) :]
+        return [new] + rest
+
+
+def turned(body, binder, fn, chain):
+    out = []
+    last = 0
+    for m in re.finditer(r"(?<![\w'.\-])" + re.escape(binder) + r"((?:\." + W + r")*)(?![\w'\-])", body):
+        words = m[1].split(".")[1:] if m[1] else []
+        if not words:
+            raise Left("the whole state")
+        new = fn.path(chain, words)
+        out.append(body[last : m.start()])
+        out.append("c." + ".".join(new))
+        last = m.end()
+    out.append(body[last:])
+    return "".join(out)
+
+
+def loops_of(fn):
+    return fn.of.get("loops") or []
+
+
+def convert(text, path, crate, of, keep_trivial=False):
+    fn = Fn(of)
+    module = f"Rattle.{crate}.proofs." + path.replace("/", ".")
+    answers, helpers, invs, uses = [], [], [], []
+    for com, lines in blocks(text):
+        if lines[0].startswith("use "):
+            joined = "\n".join(l for l in lines if l.strip())
+            if re.search(re.escape(module) + r"\.(Tie|Statement|Lts|Reads|Kinds)\b", joined):
+                continue
+            uses.append(joined)
+            continue
+        if lines[0].startswith(("infix", "module", "open")):
+            raise Left(lines[0])
+        mark, name, sig, unf, eqs = item(lines)
+        m = re.match(r"^(?:abbrev |pub )*\S+\s*:\s*tie\.(Need-)?(" + W + r")((?:\s+\S+)*)$", " ".join(sig.split()))
+        if name.endswith("_spec") and "statement" in sig:
+            continue
+        if m and not m[1]:
+            invs.append((com, name, m[2], eqs))
+            continue
+        if not m:
+            if re.search(r"\b(tie|lts|reads)\.", sig + eqs):
+                raise Left("a helper over places: " + name)
+            helpers.append("\n".join(c for c in com if c.strip()) + ("\n" if com else "") + "\n".join([sig] + unf + ([eqs] if eqs else [])))
+            continue
+        goal = fn.goal(m[2])
+        if goal is None:
+            raise Left("no goal " + m[2])
+        new, at = goal
+        h = re.match(r"^\S+((?:\s+[^\s=]+)*)\s+=\s*", eqs)
+        if not h:
+            raise Left("equations of " + name)
+        binders = h[1].split()
+        body = eqs[h.end() :]
+        if not binders:
+            raise Left("no binder of " + name)
+        if len(binders) > 1 and not binders[1].startswith("κ"):
+            raise Left("binders of " + name + " " + h[1])
+        chain = fn.chain(at)
+        body = turned(body, binders[0], fn, chain)
+        if body.strip() in TRIVIAL and not unf and not keep_trivial:
+            continue
+        if body.strip() in TRIVIAL and "unfolding" not in "\n".join(unf):
+            continue
+        local = "\n".join(c for c in com if c.strip())
+        answers.append((local + "\n" if local else "") + f"pub {new} : goal.{new}\n" + ("\n".join(unf) + "\n" if unf else "") + f"{new} c = {body}")
+    inv_text = None
+    if invs:
+        inv_text = invariants(fn, module, uses, invs)
+    ans_text = None
+    if answers:
+        ans_text = "\n".join(uses + [f"use {module}.Goals as goal"]) + "\n\n" + "\n\n".join(helpers + answers) + "\n"
+    return ans_text, inv_text
+
+
+def invariants(fn, module, uses, invs):
+    raise Left("loops " + json.dumps(fn.of["loops"]))
+
+
+def main(argv):
+    names, folder, only = argv[0], argv[1].rstrip("/"), set(argv[2:])
+    crate = os.path.basename(folder)
+    table = json.load(open(names, encoding="utf-8"))
+    done = left = 0
+    for key, of in table.items():
+        if ".Lts" not in key:
+            continue
+        path = key.split("-proofs.", 1)[1].rsplit(".Lts", 1)[0].replace(".", "/")
+        if only and path not in only:
+            continue
+        where = f"{folder}/proofs/{path}"
+        if not os.path.exists(f"{where}/Proof.antt"):
+            continue
+        text = open(f"{where}/Proof.antt", encoding="utf-8").read()
+        if "tie.close" not in text:
+            continue
+        try:
+            ans, inv = convert(text, path, crate, of)
+        except Left as e:
+            print(f"left: {path}: {e}")
+            left += 1
+            continue
+        os.makedirs(f"/tmp/port-old/{crate}/{path}", exist_ok=True)
+        os.rename(f"{where}/Proof.antt", f"/tmp/port-old/{crate}/{path}/Proof.antt")
+        for f, t in (("Answers.antt", ans), ("Invariants.antt", inv)):
+            if t:
+                open(f"{where}/{f}", "w", encoding="utf-8").write(t)
+        if not os.listdir(where):
+            os.rmdir(where)
+        done += 1
+    print(f"{crate}: turned {done}, left {left}")
+
+
+if __name__ == "__main__":
+    main(sys.argv[1:])
