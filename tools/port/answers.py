@@ -120,6 +120,7 @@ class Fn:
             else:
                 raise Left(f"step {step} is not {old}")
         # arms of later places name it
+        own = None
         for j in range(k, -1, -1):
             arm = self.of["arms"][chain[j][0]]
             if not arm:
@@ -127,10 +128,18 @@ class Fn:
             for field, of_step, of_path in arm[2]:
                 if plain(of_step) == plain(old) and rest[: len(of_path)] == of_path and of_path:
                     return [arm[0], field] + rest[len(of_path) :]
-        return [new] + rest
+                if of_step == old and not of_path and j == k:
+                    own = [arm[0], field] + rest
+        return own or [new] + rest
 
 
 def turned(body, binder, fn, chain):
+    # a name for a place is the place
+    while True:
+        m = re.search(r"\blet (\w+) = " + re.escape(binder) + r"((?:\.before)*) in\s*", body)
+        if not m:
+            break
+        body = body[: m.start()] + re.sub(r"(?<![\w'.\-])" + m[1] + r"(?![\w'\-])", binder + m[2], body[m.end() :])
     out = []
     last = 0
     for m in re.finditer(r"(?<![\w'.\-])" + re.escape(binder) + r"((?:\." + W + r")*)(?![\w'\-])", body):
@@ -142,7 +151,9 @@ def turned(body, binder, fn, chain):
         out.append("c." + ".".join(new))
         last = m.end()
     out.append(body[last:])
-    return "".join(out)
+    # a test of `!b` tells b itself now
+    text = "".join(out)
+    return re.sub(r"\(?not-(?:true|false) _ (c\.(?:if|loop)-[\w.-]*not-[\w-]+\.(?:true|false))(\)?)", lambda m: m[1] if m[0].startswith("(") and m[2] else m[1] + m[2] if not m[0].startswith("(") else "(" + m[1] + m[2], text)
 
 
 def loops_of(fn):
@@ -205,7 +216,35 @@ def convert(text, path, crate, of, keep_trivial=False):
 
 
 def invariants(fn, module, uses, invs):
-    raise Left("loops " + json.dumps(fn.of["loops"]))
+    loops, changed = fn.of["loops"], fn.of["changed"]
+    out = []
+    for com, name, word, eqs in invs:
+        kind, at = re.match(r"^(invariant|decreases)-(.*)$", word).groups()
+        k = next((i for i, it in enumerate(loops) if plain(it[0][0]) == plain(at)), None)
+        if k is None:
+            raise Left("no loop " + word)
+        (old, new), names = loops[k][0], loops[k][1]
+        h = re.match(r"^\S+((?:\s+[^\s=]+)*)\s+=\s*", eqs)
+        if not h:
+            raise Left("equations of " + name)
+        binders = h[1].split()
+        body = eqs[h.end() :]
+        flags = changed[k]
+        want = [("l.initial." if f else "l.") + n for n, f in zip(names, flags)] + ["l." + n for n, f in zip(names, flags) if f]
+        to = {}
+        if len(binders) == len(want):
+            to = dict(zip(binders, want))
+        else:
+            for b in binders:
+                n = b.replace("₀", "")
+                if n in names:
+                    to[b] = ("l.initial." if b.endswith("₀") else "l.") + n
+                elif re.search(r"(?<![\w'.\-])" + re.escape(b) + r"(?![\w'\-])", body):
+                    raise Left(f"binder {b} of {name}: {names}")
+        body = re.sub(r"(?<![\w'.\-₀])(" + "|".join(re.escape(b) for b in sorted(to, key=len, reverse=True)) + r")(?![\w'\-₀])", lambda m: to[m[1]], body)
+        note = "\n".join(c for c in com if c.strip())
+        out.append((note + "\n" if note else "") + f"abbrev pub {kind}-{new} : goal.{kind}-{new}\n{kind}-{new} l = {body}")
+    return "\n".join(uses + [f"use {module}.Given as goal"]) + "\n\n" + "\n\n".join(out) + "\n"
 
 
 def main(argv):
