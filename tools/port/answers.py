@@ -115,11 +115,16 @@ class Fn:
         k = 0
         while k < len(words) and words[k] == "before":
             k += 1
-        if k >= len(chain) or k >= len(words):
+        if k == len(words) and k < len(chain) and self.deep:
+            # a place by itself, for a lemma over places
+            return words
+        if k >= len(words):
             raise Left("a place by itself: c." + ".".join(words))
-        i, p = chain[k]
         step = words[k]
-        rest = words[k + 1 :]
+        if k >= len(chain):
+            k = len(chain) - 1
+        i, p = chain[k]
+        rest = words[words.index(step) + 1 :]
         if step in ("args", "requires", "ranges", "utf8", "well_formed", "type_inv"):
             return [step] + rest
         old, new = p[2]
@@ -147,19 +152,64 @@ class Fn:
                     return [arm[0], field] + rest[len(of_path) :]
                 if of_step == old and not of_path and j == k:
                     own = [arm[0], field] + rest
+        # what a call left in its arguments went by place
+        params = self.of["params"].get(p[3]) if p[3] else None
+        if params and rest[:1] == ["new"] and rest[1:2] and rest[1] in ("0", "1"):
+            n = 1
+            while n < len(rest) and rest[n] == "1" and n <= len(params) - 1:
+                n += 1
+            at = n - 1
+            if n < len(rest) and rest[n] == "0":
+                n += 1
+            if at < len(params):
+                rest = ["new", params[at]] + rest[n:]
+                own = None
         return own or [new] + rest
 
 
-def turned(body, binder, fn, chain):
+def turned(body, binder, fn, chain, over={}, unfoldings=[]):
     # a name for a place is the place
     while True:
         m = re.search(r"\blet ([\w\-]+) = " + re.escape(binder) + r"((?:\.before)*) in\s*", body)
         if not m:
             break
         body = body[: m.start()] + re.sub(r"(?<![\w'.\-])" + m[1] + r"(?![\w'\-])", binder + m[2], body[m.end() :])
+    # a lemma over places stands in front, about the state itself
+    def uses(name, text, b):
+        return re.compile(r"(?<![\w'.\-])" + re.escape(name) + r"(?![\w'\-])(?:\s+t(?![\w'\-]))?\s+(?:\(" + re.escape(b) + r"(?:\.before)*\)|" + re.escape(b) + r"(?:\.before)*(?![\w'\-.]))")
+
+    needed, front = [], {}
+    todo = [(body, binder)]
+    while todo:
+        text, b = todo.pop()
+        for name in over:
+            if name not in needed and uses(name, text, b).search(text):
+                needed.append(name)
+                at, tb, typ, cb, params, eq, unf = over[name]
+                j = next((k for k, (_, q) in enumerate(chain) if q[0] == at), None)
+                if j is None:
+                    raise Left(f"{name} is not on the way")
+                here = binder + ".before" * j
+                put = lambda text, b: re.sub(r"(?<![\w'.\-])" + re.escape(b) + r"(?![\w'\-])", here, text)
+                typ2, eq2 = put(typ, tb), put(eq, cb)
+                typ2 = re.sub(r"^→\s*", "", typ2)
+                front[name] = (typ2, ("λ " + " ".join(params) + ". " if params else "") + eq2, unf)
+                todo += [(typ2, binder), (eq2, binder)]
+    lets = ""
+    for name in over:
+        if name in needed:
+            typ, eq, unf = front[name]
+            lets += f"let {name} : {typ} = {' '.join(eq.split())} in "
+            unfoldings.extend(unf)
+    body = lets + body
+    for name in needed:
+        body = uses(name, body, binder).sub(name, body)
+    for name in needed:
+        # (lets that this one brought in)
+        body = re.sub(r"let " + re.escape(name) + r" = " + re.escape(name) + r" in ", "", body)
     out = []
     last = 0
-    for m in re.finditer(r"(?<![\w'.\-])" + re.escape(binder) + r"((?:\." + W + r")*)(?![\w'\-])", body):
+    for m in re.finditer(r"(?<![\w'.\-\x01])" + re.escape(binder) + r"((?:\." + W + r")*)(?![\w'\-])", body):
         words = m[1].split(".")[1:] if m[1] else []
         if not words:
             raise Left("the whole state")
@@ -169,7 +219,7 @@ def turned(body, binder, fn, chain):
         last = m.end()
     out.append(body[last:])
     # a test of `!b` tells b itself now
-    text = "".join(out)
+    text = "".join(out).replace("\x01", "c")
     return re.sub(r"\(?not-(?:true|false) _ (c\.(?:if|loop)-[\w.-]*not-[\w-]+\.(?:true|false))(\)?)", lambda m: m[1] if m[0].startswith("(") and m[2] else m[1] + m[2] if not m[0].startswith("(") else "(" + m[1] + m[2], text)
 
 
@@ -188,7 +238,7 @@ def convert(text, path, crate, of, keep_trivial=False):
                 fns[it[2]] = Fn(of[name], True)
     fn = Fn(of) if not cycle else None
     module = f"Rattle.{crate}.proofs." + path.replace("/", ".")
-    answers, helpers, invs, uses, named = [], [], [], [], []
+    answers, helpers, invs, uses, named, over, placed = [], [], [], [], [], {}, []
     for com, lines in blocks(text):
         if lines[0].startswith("use "):
             joined = "\n".join(l for l in lines if l.strip())
@@ -219,7 +269,23 @@ def convert(text, path, crate, of, keep_trivial=False):
             continue
         if not m:
             if re.search(r"\b(tie|lts|reads)\.|-lts\.", sig + eqs):
-                raise Left("a helper over places: " + name)
+                flat = " ".join(sig.split())
+                ph = re.match(r"^((?:abbrev |pub )*)\S+ : ((?:\(t : ℕ\) )?)\((\w+) : (\S+?)\.(" + W + r")(?: [^)]*)?\)(.*)$", flat)
+                pe = re.match(r"^\S+((?:\s+[^\s=]+)*)\s+=\s*", eqs)
+                of_fn = fns.get(ph[4]) if ph and cycle else fn
+                if not ph or not pe or not of_fn:
+                    raise Left("a helper over places: " + name)
+                at = next((q for q in of_fn.places if plain(q) == plain(ph[5])), None)
+                if at is None:
+                    raise Left("a helper over places: " + name + " at " + ph[5])
+                chain = of_fn.chain(at)
+                new_place = of_fn.of["places_by_name"][of_fn.places[at][0]]
+                hb = pe[1].split()
+                k = 1 if ph[2] else 0
+                cb = hb[k]
+                more_params = hb[k + 1 :]
+                over[name] = (at, ph[3], ph[6].strip(), cb, more_params, eqs[pe.end() :], unf)
+                continue
             named.append((name, "\n".join(c for c in com if c.strip()) + ("\n" if com else "") + "\n".join([sig] + unf + ([eqs] if eqs else []))))
             helpers.append(named[-1][1])
             continue
@@ -240,7 +306,11 @@ def convert(text, path, crate, of, keep_trivial=False):
             raise Left("no binder of " + name)
         more = [b for b in binders[1:] if not b.startswith("κ")]
         chain = fn.chain(at)
-        body = turned(body, binders[0], fn, chain)
+        more_unf = []
+        body = turned(body, binders[0], fn, chain, over, more_unf)
+        if more_unf:
+            words = sorted({w for line in unf + more_unf for w in line.replace("unfolding", "").split()})
+            unf = ["unfolding " + " ".join(words)]
         if body.strip() in TRIVIAL and not unf and not keep_trivial:
             continue
         if body.strip() in TRIVIAL and "unfolding" not in "\n".join(unf):
@@ -265,7 +335,7 @@ def convert(text, path, crate, of, keep_trivial=False):
             uses.append(f"use {module}.Invariants.{{{', '.join(n for n, _ in named if n in cited)}}}")
     ans_text = None
     if answers:
-        ans_text = "\n".join(uses + [f"use {module}.Goals as goal"]) + "\n\n" + "\n\n".join(helpers + answers) + "\n"
+        ans_text = "\n".join(uses + [f"use {module}.Goals as goal"]) + "\n\n" + "\n\n".join(helpers + placed + answers) + "\n"
     return ans_text, inv_text
 
 
