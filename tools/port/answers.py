@@ -101,6 +101,8 @@ class Fn:
 
     def path(self, chain, words):
         new = self.path_(chain, words)
+        if self.deep and new[0] == "pre":
+            new = ["requires"] + new[1:]
         if self.deep and new[0] == "requires":
             # in a cycle the measure's fact stood first
             if new[1:2] == ["0"]:
@@ -125,14 +127,14 @@ class Fn:
             k = len(chain) - 1
         i, p = chain[k]
         rest = words[words.index(step) + 1 :]
-        if step in ("args", "requires", "ranges", "utf8", "well_formed", "type_inv"):
+        if step in ("args", "requires", "pre", "ranges", "utf8", "well_formed", "type_inv"):
             return [step] + rest
         old, new = p[2]
         if plain(step) != plain(old):
             if step == "given" or p[1] is None:
                 return [step] + rest
             # (a name that stands in both forms)
-            alike = lambda it: re.sub(r"(?i)is[-_](?=is)|[-_]|_contract$", "", it).lower()
+            alike = lambda it: re.sub(r"(?i)is[-_](?=is)|_contract$|_lem$|[-_]|_lem$", "", it).lower()
             if alike(step) != alike(old):
                 # places have come or gone between: by its name
                 found = [j for j, (_, q) in enumerate(chain) if alike(q[2][0]) == alike(step)]
@@ -258,7 +260,9 @@ def convert(text, path, crate, of, keep_trivial=False):
                 deep = True
             elif re.search(r"\bIn \d|Measures|\.Claims\b", sig):
                 if "Measures" in sig:
-                    invs.append((com, name, None, eqs))
+                    kinds = re.search(r"Measures \d+ (\S+)\.ps", sig)[1]
+                    f = re.search(r"use \S+?\.(\w+)\.Kinds as " + re.escape(kinds), text)[1]
+                    invs.append((com, f, None, eqs))
                 continue
             else:
                 m = None
@@ -270,7 +274,14 @@ def convert(text, path, crate, of, keep_trivial=False):
         if not m:
             if re.search(r"\b(tie|lts|reads)\.|-lts\.", sig + eqs):
                 flat = " ".join(sig.split())
-                ph = re.match(r"^((?:abbrev |pub )*)\S+ : ((?:\(t : ℕ\) )?)\((\w+) : (\S+?)\.(" + W + r")(?: [^)]*)?\)(.*)$", flat)
+                ph = None
+                h0 = re.match(r"^((?:abbrev |pub )*)\S+ : ((?:\(t : ℕ\) )?)\((\w+) : (\S+?)\.(" + W + r")", flat)
+                if h0:
+                    depth, e = 1, h0.end()
+                    while depth:
+                        depth += {"(": 1, ")": -1}.get(flat[e], 0)
+                        e += 1
+                    ph = [h0[0], h0[1], h0[2], h0[3], h0[4], h0[5], flat[e:]]
                 pe = re.match(r"^\S+((?:\s+[^\s=]+)*)\s+=\s*", eqs)
                 of_fn = fns.get(ph[4]) if ph and cycle else fn
                 if not ph or not pe or not of_fn:
@@ -294,6 +305,7 @@ def convert(text, path, crate, of, keep_trivial=False):
             print(f"dropped: {path}: no goal {m[2]}")
             continue
         new, at = goal
+        new = fn.of["stem"] + new
         h = re.match(r"^\S+((?:\s+[^\s=]+)*)\s+=\s*", eqs)
         if not h:
             raise Left("equations of " + name)
@@ -330,7 +342,7 @@ def convert(text, path, crate, of, keep_trivial=False):
                     todo.append(t)
         moved = [re.sub(r"^((?:--.*\n)*)(?:(abbrev|unfoldable) )?(?:pub )?", lambda m: m[1] + (m[2] + " " if m[2] else "") + "pub ", t) for n, t in named if n in cited]
         helpers = [t for n, t in named if n not in cited]
-        inv_text = invariants(fns, module, uses, invs, moved)
+        inv_text = invariants(fns, module, uses, invs, moved, crate)
         if cited:
             uses.append(f"use {module}.Invariants.{{{', '.join(n for n, _ in named if n in cited)}}}")
     ans_text = None
@@ -339,13 +351,26 @@ def convert(text, path, crate, of, keep_trivial=False):
     return ans_text, inv_text
 
 
-def invariants(fns, module, uses, invs, helpers=()):
+def params_of(crate, name):
+    """The parameters of a function of the crate, in order."""
+    for folder, _, files in os.walk(f"crates/{crate}/src"):
+        for f in files:
+            it = re.search(r"(?s)\bfn " + name + r"\s*\((.*?)\)\s*(?:->|requires|ensures|\{)", open(f"{folder}/{f}", encoding="utf-8").read())
+            if it:
+                return re.findall(r"(?:^|[(,])\s*(?:mut )?(\w+)\s*:", it[1])
+    raise Left("no function " + name)
+
+
+def invariants(fns, module, uses, invs, helpers=(), crate=""):
     out = []
     for com, name, word, eqs in invs:
         if word is None:
             note = "\n".join(c for c in com if c.strip())
-            of = name.replace("μ", "").strip("-_")
-            out.append((note + "\n" if note else "") + f"abbrev pub decreases-{of.replace('-', '_')} : goal.decreases-{of.replace('-', '_')}\ndecreases-{of.replace('-', '_')} l = {eqs.split('=', 1)[1].strip()}")
+            params = params_of(crate, name)
+            it = eqs.split("=", 1)[1].strip()
+            binder = eqs.split("=", 1)[0].split()[-1]
+            it = re.sub(r"(?<![\w'.\-])" + re.escape(binder) + r"((?:\.1)*)(\.0)?(?=\.now|(?![\w.]))", lambda m: "l." + params[m[1].count("1")], it)
+            out.append((note + "\n" if note else "") + f"abbrev pub decreases-{name} : goal.decreases-{name}\ndecreases-{name} l = {it}")
             continue
         fn, word = word
         loops, changed = fn.of["loops"], fn.of["changed"]
@@ -354,6 +379,7 @@ def invariants(fns, module, uses, invs, helpers=()):
         if k is None:
             raise Left("no loop " + word)
         (old, new), names = loops[k][0], loops[k][1]
+        new = fn.of["stem"] + new
         h = re.match(r"^\S+((?:\s+[^\s=]+)*)\s+=\s*", eqs)
         if not h:
             raise Left("equations of " + name)

@@ -14,14 +14,14 @@ use Rattle.candidates.proofs.OneTree.{Given-facts, given, one_room, moved_room, 
 use Rattle.candidates.proofs.+gather_gather_child.Given as goal
 
 abbrev pub decreases-gather : goal.decreases-gather
-decreases-gather l = 2 * length a.0.now + 1
+decreases-gather l = 2 * length l.words.now + 1
 
 abbrev pub decreases-gather_child : goal.decreases-gather_child
-decreases-gather_child l = 2 * length a.0.now
+decreases-gather_child l = 2 * length l.words.now
 
-abbrev pub invariant-loop-a : goal.invariant-loop-a
-invariant-loop-a l = (length l.pairs ≡ length l.initial.pairs) × (length l.triples ≡ length l.initial.triples) × (4 * l.a ≤ length l.words) × (l.used ≤ length l.initial.pairs)
+abbrev pub invariant-gather-loop-a : goal.invariant-gather-loop-a
+invariant-gather-loop-a l = (length l.pairs ≡ length l.initial.pairs) × (length l.triples ≡ length l.initial.triples) × (4 * l.a ≤ length l.words) × (l.used ≤ length l.initial.pairs)
     × ((ts : Forest Row) → RowsOf l.words l.rows l.marks ts → RoomFor (candidates_f l.base ts) l.initial.pairs l.initial.triples → Rest l.words l.rows l.marks l.base l.initial.pairs l.initial.triples l.pairs l.triples ts l.a l.used)
 
-abbrev pub decreases-loop-a : goal.decreases-loop-a
-decreases-loop-a l = length l.words - l.a
+abbrev pub decreases-gather-loop-a : goal.decreases-gather-loop-a
+decreases-gather-loop-a l = length l.words - l.a

@@ -6,7 +6,7 @@ use Rattle.coarse.proofs.coarse.Goals as goal
 pub put_boxes-requires : goal.put_boxes-requires
 put_boxes-requires c = let a = c.args in
     let l = accepted a.words.now a.rows.now a.marks.now a.out.now (sym c.coarse_tested-a.ensures ∙ c.in-Shown.is) in
-    (l.few, ((refl, l.tree), l.long))
+    record { few = l.few; tree = (refl, l.tree); long = l.long }
 
 pub returns-in-Shown : goal.returns-in-Shown
 returns-in-Shown c = let a = c.args in

@@ -13,7 +13,7 @@ returns-in-Refuse c = let fits = sym c.bad_out.ensures ∙ c.if-bad_out.false in
 
 pub first_too_far-requires : goal.first_too_far-requires
 first_too_far-requires c = let e = sym c.rows_tested.ensures ∙ c.in_default.is in
-    (few _ _ _ e, (refl, tree-sound _ _ _ e))
+    record { few = few _ _ _ e; tree = (refl, tree-sound _ _ _ e) }
 
 pub returns-in-At : goal.returns-in-At
 unfolding by_edge

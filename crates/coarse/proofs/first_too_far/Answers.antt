@@ -21,7 +21,7 @@ loop-i-init c = let a = c.args in
 pub seen_at-s-requires : goal.seen_at-s-requires
 seen_at-s-requires c = let h = c.still_above-d.ensures.0 in
     let g = c.loop-i.invariant.1 in
-    let f = c.requires.0 in
+    let f = c.requires.few in
     (omega arith, omega arith)
 
 pub returns-then-s : goal.returns-then-s
@@ -31,7 +31,7 @@ returns-then-s c = let a = c.args in
     let t = c.loop-i-test.true in
     let r = c.still_above-d in
     let far = far_node (edge_by a.words.now a.rows.now) a.rows.now a.marks.now in
-    let same : c.seen_at-s.result.far ≡ far l.i = ap (λ (x : Seen). x.far) (c.seen_at-s.ensures ∙ seen-too a.words.now a.n c.requires.1.0 c.requires.1.1 l.up l.d r.result l.i t l.invariant.3 r.ensures.1 a.rows.now a.marks.now) in
+    let same : c.seen_at-s.result.far ≡ far l.i = ap (λ (x : Seen). x.far) (c.seen_at-s.ensures ∙ seen-too a.words.now a.n c.requires.tree.0 c.requires.tree.1 l.up l.d r.result l.i t l.invariant.3 r.ensures.1 a.rows.now a.marks.now) in
     sym (l.invariant.4 ∙ here far at_node Nowhere a.n l.i t (sym same ∙ c.if-s.true))
 
 pub bounds-up-d : goal.bounds-up-d
@@ -39,7 +39,7 @@ bounds-up-d c = let a = c.args in
     let l = c.loop-i in
     let t = c.loop-i-test.true in
     let r = c.still_above-d in
-    room a.words.now a.n c.requires.1.0 c.requires.1.1 l.up l.d r.result l.i t l.invariant.3 r.ensures.1
+    room a.words.now a.n c.requires.tree.0 c.requires.tree.1 l.up l.d r.result l.i t l.invariant.3 r.ensures.1
 
 pub loop-i-preserved : goal.loop-i-preserved
 unfolding seen_of
@@ -48,12 +48,12 @@ loop-i-preserved c = let a = c.args in
     let t = c.loop-i-test.true in
     let r = c.still_above-d in
     let far = far_node (edge_by a.words.now a.rows.now) a.rows.now a.marks.now in
-    let same : c.seen_at-s.result.far ≡ far l.i = ap (λ (x : Seen). x.far) (c.seen_at-s.ensures ∙ seen-too a.words.now a.n c.requires.1.0 c.requires.1.1 l.up l.d r.result l.i t l.invariant.3 r.ensures.1 a.rows.now a.marks.now) in
-    let q = room a.words.now a.n c.requires.1.0 c.requires.1.1 l.up l.d r.result l.i t l.invariant.3 r.ensures.1 in (
+    let same : c.seen_at-s.result.far ≡ far l.i = ap (λ (x : Seen). x.far) (c.seen_at-s.ensures ∙ seen-too a.words.now a.n c.requires.tree.0 c.requires.tree.1 l.up l.d r.result l.i t l.invariant.3 r.ensures.1 a.rows.now a.marks.now) in
+    let q = room a.words.now a.n c.requires.tree.0 c.requires.tree.1 l.up l.d r.result l.i t l.invariant.3 r.ensures.1 in (
       omega arith,
       omega arith,
       length-set l.up r.result l.i ∙ l.invariant.2,
-      pushed a.words.now a.n c.requires.1.0 c.requires.1.1 l.up l.d r.result l.i t l.invariant.3 r.ensures.1 l.invariant.2,
+      pushed a.words.now a.n c.requires.tree.0 c.requires.tree.1 l.up l.d r.result l.i t l.invariant.3 r.ensures.1 l.invariant.2,
       l.invariant.4 ∙ pass far at_node Nowhere a.n l.i t (sym same ∙ c.if-s.false),
     )
 
