@@ -276,7 +276,7 @@ pub perform_final_layout_on_in_flow_children-overflow_sub-depth : goal.perform_f
 perform_final_layout_on_in_flow_children-overflow_sub-depth t c = let next : ℕ = c.loop-child.child + c.word_in.result in let given : Facts c.args.words.now c.args.numbers.now c.args.rows.now c.args.marks.now c.args.edits.now c.args.base c.args.depth = facts _ _ _ _ _ _ _ c.requires in let Tabled : Tree Cell → Type 0 = λ k. TabledT c.args.words.now c.args.numbers.now c.args.rows.now c.args.marks.now c.args.edits.now c.args.base k in let turning : (k : Tree Cell) → Tabled k → Turn c.args.words.now c.args.numbers.now c.loop-child.rows c.loop-child.marks c.args.edits.now c.args.base c.args.frame k c.loop-child.cursor c.loop-child.child (next) = λ k h. turn _ _ _ _ _ _ _ k _ _ _ (ap (λ (n : ℕ). c.loop-child.child + n) c.word_in.ensures) (c.loop-child.invariant.4 k h) c.loop-child-test.true in let turned : Turn c.args.words.now c.args.numbers.now c.loop-child.rows c.loop-child.marks c.args.edits.now c.args.base c.args.frame c.requires.tree c.loop-child.cursor c.loop-child.child (next) = turning c.requires.tree c.requires.tabled in let f = turned in let g = given in omega arith
 
 pub perform_final_layout_on_in_flow_children-compute_child_layout-answer-requires : goal.perform_final_layout_on_in_flow_children-compute_child_layout-answer-requires
-perform_final_layout_on_in_flow_children-compute_child_layout-answer-requires t c = let next : ℕ = c.loop-child.child + c.word_in.result in let given : Facts c.args.words.now c.args.numbers.now c.args.rows.now c.args.marks.now c.args.edits.now c.args.base c.args.depth = facts _ _ _ _ _ _ _ c.requires in let Tabled : Tree Cell → Type 0 = λ k. TabledT c.args.words.now c.args.numbers.now c.args.rows.now c.args.marks.now c.args.edits.now c.args.base k in let turning : (k : Tree Cell) → Tabled k → Turn c.args.words.now c.args.numbers.now c.loop-child.rows c.loop-child.marks c.args.edits.now c.args.base c.args.frame k c.loop-child.cursor c.loop-child.child (next) = λ k h. turn _ _ _ _ _ _ _ k _ _ _ (ap (λ (n : ℕ). c.loop-child.child + n) c.word_in.ensures) (c.loop-child.invariant.4 k h) c.loop-child-test.true in let turned : Turn c.args.words.now c.args.numbers.now c.loop-child.rows c.loop-child.marks c.args.edits.now c.args.base c.args.frame c.requires.tree c.loop-child.cursor c.loop-child.child (next) = turning c.requires.tree c.requires.tabled in let its-words : List ℕ = take (4 * next - 4 * c.loop-child.child) (drop (4 * c.loop-child.child) c.args.words.now) in let its-rows : List Float = take (16 * next - 16 * c.loop-child.child) (drop (16 * c.loop-child.child) c.loop-child.rows) in let its-marks : List ℕ = take (2 * next - 2 * c.loop-child.child) (drop (2 * c.loop-child.child) c.loop-child.marks) in let child : IsTree (its-words) c.args.numbers.now (its-rows) (its-marks) c.args.edits.now (c.args.base + c.loop-child.child) (c.args.depth - 1) = let f = turned in let w = c.requires.fit in let u = c.requires.reach in let v = c.requires.tabled.words_long in record { tree = f.tree; tabled = f.tabled; deep = f.shallow c.args.depth c.requires.deep; fit = omega arith; reach = omega arith } in let g = given in (omega (arith, (t.before.before.before.before.before.before.before c.before.before.before.before.before.before.before.before.before.before.before.before.before).pre.0, g.deep), child)
+perform_final_layout_on_in_flow_children-compute_child_layout-answer-requires t c = let next : ℕ = c.loop-child.child + c.word_in.result in let given : Facts c.args.words.now c.args.numbers.now c.args.rows.now c.args.marks.now c.args.edits.now c.args.base c.args.depth = facts _ _ _ _ _ _ _ c.requires in let Tabled : Tree Cell → Type 0 = λ k. TabledT c.args.words.now c.args.numbers.now c.args.rows.now c.args.marks.now c.args.edits.now c.args.base k in let turning : (k : Tree Cell) → Tabled k → Turn c.args.words.now c.args.numbers.now c.loop-child.rows c.loop-child.marks c.args.edits.now c.args.base c.args.frame k c.loop-child.cursor c.loop-child.child (next) = λ k h. turn _ _ _ _ _ _ _ k _ _ _ (ap (λ (n : ℕ). c.loop-child.child + n) c.word_in.ensures) (c.loop-child.invariant.4 k h) c.loop-child-test.true in let turned : Turn c.args.words.now c.args.numbers.now c.loop-child.rows c.loop-child.marks c.args.edits.now c.args.base c.args.frame c.requires.tree c.loop-child.cursor c.loop-child.child (next) = turning c.requires.tree c.requires.tabled in let its-words : List ℕ = take (4 * next - 4 * c.loop-child.child) (drop (4 * c.loop-child.child) c.args.words.now) in let its-rows : List Float = take (16 * next - 16 * c.loop-child.child) (drop (16 * c.loop-child.child) c.loop-child.rows) in let its-marks : List ℕ = take (2 * next - 2 * c.loop-child.child) (drop (2 * c.loop-child.child) c.loop-child.marks) in let child : IsTree (its-words) c.args.numbers.now (its-rows) (its-marks) c.args.edits.now (c.args.base + c.loop-child.child) (c.args.depth - 1) = let f = turned in let w = c.requires.fit in let u = c.requires.reach in let v = c.requires.tabled.words_long in record { tree = f.tree; tabled = f.tabled; deep = f.shallow c.args.depth c.requires.deep; fit = omega arith; reach = omega arith } in let g = given in (omega (arith, c.decreases, g.deep), child)
 
 pub perform_final_layout_on_in_flow_children-offset_bounds-rows-r0-in-In-2 : goal.perform_final_layout_on_in_flow_children-offset_bounds-rows-r0-in-In-2
 perform_final_layout_on_in_flow_children-offset_bounds-rows-r0-in-In-2 t c = let next : ℕ = c.loop-child.child + c.word_in.result in let given : Facts c.args.words.now c.args.numbers.now c.args.rows.now c.args.marks.now c.args.edits.now c.args.base c.args.depth = facts _ _ _ _ _ _ _ c.requires in let Tabled : Tree Cell → Type 0 = λ k. TabledT c.args.words.now c.args.numbers.now c.args.rows.now c.args.marks.now c.args.edits.now c.args.base k in let turning : (k : Tree Cell) → Tabled k → Turn c.args.words.now c.args.numbers.now c.loop-child.rows c.loop-child.marks c.args.edits.now c.args.base c.args.frame k c.loop-child.cursor c.loop-child.child (next) = λ k h. turn _ _ _ _ _ _ _ k _ _ _ (ap (λ (n : ℕ). c.loop-child.child + n) c.word_in.ensures) (c.loop-child.invariant.4 k h) c.loop-child-test.true in let turned : Turn c.args.words.now c.args.numbers.now c.loop-child.rows c.loop-child.marks c.args.edits.now c.args.base c.args.frame c.requires.tree c.loop-child.cursor c.loop-child.child (next) = turning c.requires.tree c.requires.tabled in let f = turned in let g = given in omega arith
@@ -309,21 +309,21 @@ pub perform_final_layout_on_in_flow_children-loop-child-smaller-in-Gone : goal.p
 perform_final_layout_on_in_flow_children-loop-child-smaller-in-Gone t c = let hidden-step : perform_final_layout_on_in_flow_children-lts.After-word-in t = c.before.before.before.before.before.before.before.before.before.before.before in let f = turned t (hidden-step) in shorter _ _ _ f.some f.words_in_lem
 
 pub perform_final_layout_on_in_flow_children-loop-child-preserved-in-Gone : goal.perform_final_layout_on_in_flow_children-loop-child-preserved-in-Gone
-perform_final_layout_on_in_flow_children-loop-child-preserved-in-Gone t c = let hidden-step : perform_final_layout_on_in_flow_children-lts.After-word-in t = c.before.before.before.before.before.before.before.before.before.before.before in let hidden_placed : ChildPlaced t (hidden-step) c.pass_hidden-cursor.result c.pass_hidden-cursor.new.rows c.pass_hidden-cursor.new.marks = let at-pass-hidden = c.before.before.before.before in let at-enum-told = c.before.before.before.before.before.before.before in let at-flow = at-enum-told.before.before in let s = t.before.before.before.before.before.before.before (t.before.before (hidden-step)) in let flow_is = at-flow.flow.ensures ∙ flow_at_lem _ s.args.numbers.now (s.args.base + (t.before.before (hidden-step)).loop.child) in gone-placed _ s.args.numbers.now _ _ s.args.edits.now (s.args.base + (t.before.before (hidden-step)).loop.child) s.args.frame (t.before.before (hidden-step)).loop.cursor _ _ refl flow_is _ _ _ at-enum-told.enum_told.given.1 at-pass-hidden.pass-hidden.ensures in let at-step = hidden-step in
+perform_final_layout_on_in_flow_children-loop-child-preserved-in-Gone t c = let hidden-step : perform_final_layout_on_in_flow_children-lts.After-word-in t = c.before.before.before.before.before.before.before.before.before.before.before in let hidden_placed : ChildPlaced t (hidden-step) c.pass_hidden-cursor.result c.pass_hidden-cursor.new.rows c.pass_hidden-cursor.new.marks = let at-pass-hidden = c.before.before.before.before in let at-enum-told = c.before.before.before.before.before.before.before in let at-flow = at-enum-told.before.before in let s = top t (loop t (hidden-step)) in let flow_is = at-flow.flow.ensures ∙ flow_at_lem _ s.args.numbers.now (s.args.base + (loop t (hidden-step)).loop.child) in gone-placed _ s.args.numbers.now _ _ s.args.edits.now (s.args.base + (loop t (hidden-step)).loop.child) s.args.frame (loop t (hidden-step)).loop.cursor _ _ refl flow_is _ _ _ at-enum-told.enum_told.given.1 at-pass-hidden.pass-hidden.ensures in let at-step = hidden-step in
     (rows_long t at-step c.pass_hidden-cursor.new.rows c.pass_hidden-cursor.auto.0, marks_long t at-step c.pass_hidden-cursor.new.marks c.pass_hidden-cursor.auto.1.0, (turned t at-step).words_in_lem, counted-on t at-step _ _ _ (hidden_placed), rest-on t at-step _ _ _ (hidden_placed))
 
 pub perform_final_layout_on_in_flow_children-loop-child-smaller-in-Out : goal.perform_final_layout_on_in_flow_children-loop-child-smaller-in-Out
 perform_final_layout_on_in_flow_children-loop-child-smaller-in-Out t c = let aside-step : perform_final_layout_on_in_flow_children-lts.After-word-in t = c.before.before.before.before.before.before.before.before.before.before.before in let f = turned t (aside-step) in shorter _ _ _ f.some f.words_in_lem
 
 pub perform_final_layout_on_in_flow_children-loop-child-preserved-in-Out : goal.perform_final_layout_on_in_flow_children-loop-child-preserved-in-Out
-perform_final_layout_on_in_flow_children-loop-child-preserved-in-Out t c = let aside-step : perform_final_layout_on_in_flow_children-lts.After-word-in t = c.before.before.before.before.before.before.before.before.before.before.before in let aside-placed : ChildPlaced t (aside-step) c.pass_aside-cursor.result c.pass_aside-cursor.new.rows c.pass_aside-cursor.new.marks = let at-pass-aside = c.before.before.before.before in let at-enum-told2 = c.before.before.before.before.before.before.before in let at-flow = at-enum-told2.before.before in let s = t.before.before.before.before.before.before.before (t.before.before (aside-step)) in let flow_is = at-flow.flow.ensures ∙ flow_at_lem _ s.args.numbers.now (s.args.base + (t.before.before (aside-step)).loop.child) in out-placed _ s.args.numbers.now _ _ s.args.edits.now (s.args.base + (t.before.before (aside-step)).loop.child) s.args.frame (t.before.before (aside-step)).loop.cursor _ _ refl flow_is _ _ _ at-enum-told2.enum-told2.given.1 at-pass-aside.pass-aside.ensures in let at-step = aside-step in
+perform_final_layout_on_in_flow_children-loop-child-preserved-in-Out t c = let aside-step : perform_final_layout_on_in_flow_children-lts.After-word-in t = c.before.before.before.before.before.before.before.before.before.before.before in let aside-placed : ChildPlaced t (aside-step) c.pass_aside-cursor.result c.pass_aside-cursor.new.rows c.pass_aside-cursor.new.marks = let at-pass-aside = c.before.before.before.before in let at-enum-told2 = c.before.before.before.before.before.before.before in let at-flow = at-enum-told2.before.before in let s = top t (loop t (aside-step)) in let flow_is = at-flow.flow.ensures ∙ flow_at_lem _ s.args.numbers.now (s.args.base + (loop t (aside-step)).loop.child) in out-placed _ s.args.numbers.now _ _ s.args.edits.now (s.args.base + (loop t (aside-step)).loop.child) s.args.frame (loop t (aside-step)).loop.cursor _ _ refl flow_is _ _ _ at-enum-told2.enum-told2.given.1 at-pass-aside.pass-aside.ensures in let at-step = aside-step in
     (rows_long t at-step c.pass_aside-cursor.new.rows c.pass_aside-cursor.auto.0, marks_long t at-step c.pass_aside-cursor.new.marks c.pass_aside-cursor.auto.1.0, (turned t at-step).words_in_lem, counted-on t at-step _ _ _ (aside-placed), rest-on t at-step _ _ _ (aside-placed))
 
 pub perform_final_layout_on_in_flow_children-loop-child-smaller : goal.perform_final_layout_on_in_flow_children-loop-child-smaller
 perform_final_layout_on_in_flow_children-loop-child-smaller t c = let settled-step : perform_final_layout_on_in_flow_children-lts.After-word-in t = c.before.before.before.before.before.before.before.before.before.before.before.before.before.before.before.before.before.before.before.before.before.before.before in let f = turned t (settled-step) in shorter _ _ _ f.some f.words_in_lem
 
 pub perform_final_layout_on_in_flow_children-loop-child-preserved : goal.perform_final_layout_on_in_flow_children-loop-child-preserved
-perform_final_layout_on_in_flow_children-loop-child-preserved t c = let settled-step : perform_final_layout_on_in_flow_children-lts.After-word-in t = c.before.before.before.before.before.before.before.before.before.before.before.before.before.before.before.before.before.before.before.before.before.before.before in let settled-placed : ChildPlaced t (settled-step) c.settle-cursor.result c.settle-cursor.new.rows c.settle-cursor.new.marks = let at-settle = c.before.before.before.before in let at-asked = c.before.before.before.before.before.before.before.before.before.before.before in let at-plan-at = c.before.before.before.before.before.before.before.before.before.before.before.before.before.before.before.before.before in let at-enum-told3 = c.before.before.before.before.before.before.before.before.before.before.before.before.before.before.before.before.before.before.before in let at-flow = at-enum-told3.before.before in let at-step = settled-step in let s = t.before.before.before.before.before.before.before at-step.before.before in let flow_is = at-flow.flow.ensures ∙ flow_at_lem _ s.args.numbers.now (s.args.base + at-step.before.before.loop.child) in let f = turned t at-step in let again = settled-again at-step.before.before.loop.child (next t at-step) s.args.words.now at-step.before.before.loop.rows at-asked.compute-child-layout.new.1.1.0 at-step.before.before.loop.marks at-asked.compute-child-layout.new.1.1.1.0 f.some f.words_in_lem f.rows_long f.marks_long at-asked.compute-child-layout.auto.1.1.0 at-asked.compute-child-layout.auto.1.1.1.0 _ _ _ _ _ _ _ at-settle.settle.ensures in in-placed _ s.args.numbers.now _ _ s.args.edits.now (s.args.base + at-step.before.before.loop.child) s.args.frame at-step.before.before.loop.cursor _ _ refl flow_is _ _ _ _ _ _ _ _ at-enum-told3.enum-told3.given.1 at-plan-at.plan-at.ensures.0 at-asked.compute-child-layout.ensures at-plan-at.plan-at.ensures.1 again in let at-step = settled-step in
+perform_final_layout_on_in_flow_children-loop-child-preserved t c = let settled-step : perform_final_layout_on_in_flow_children-lts.After-word-in t = c.before.before.before.before.before.before.before.before.before.before.before.before.before.before.before.before.before.before.before.before.before.before.before in let settled-placed : ChildPlaced t (settled-step) c.settle-cursor.result c.settle-cursor.new.rows c.settle-cursor.new.marks = let at-settle = c.before.before.before.before in let at-asked = c.before.before.before.before.before.before.before.before.before.before.before in let at-plan-at = c.before.before.before.before.before.before.before.before.before.before.before.before.before.before.before.before.before in let at-enum-told3 = c.before.before.before.before.before.before.before.before.before.before.before.before.before.before.before.before.before.before.before in let at-flow = at-enum-told3.before.before in let at-step = settled-step in let s = at-step.before.before.before.before.before.before.before.before.before in let flow_is = at-flow.flow.ensures ∙ flow_at_lem _ s.args.numbers.now (s.args.base + at-step.before.before.loop.child) in let f = turned t at-step in let again = settled-again at-step.before.before.loop.child (next t at-step) s.args.words.now at-step.before.before.loop.rows at-asked.compute-child-layout.new.1.1.0 at-step.before.before.loop.marks at-asked.compute-child-layout.new.1.1.1.0 f.some f.words_in_lem f.rows_long f.marks_long at-asked.compute-child-layout.auto.1.1.0 at-asked.compute-child-layout.auto.1.1.1.0 _ _ _ _ _ _ _ at-settle.settle.ensures in in-placed _ s.args.numbers.now _ _ s.args.edits.now (s.args.base + at-step.before.before.loop.child) s.args.frame at-step.before.before.loop.cursor _ _ refl flow_is _ _ _ _ _ _ _ _ at-enum-told3.enum-told3.given.1 at-plan-at.plan-at.ensures.0 at-asked.compute-child-layout.ensures at-plan-at.plan-at.ensures.1 again in let at-step = settled-step in
     let at-loop = at-step.before.before in
     let s = at-loop.before.before.before.before.before.before.before in
     let nr = c.compute_child_layout-answer.new.rows in
