@@ -36,7 +36,7 @@ def blocks(text):
             elif com:
                 com.append(line)
             continue
-        if line[0].isspace():
+        if line[0].isspace() or line[0] in ")]}":
             cur.append(line)
             continue
         word = line.split()[0]
@@ -76,8 +76,9 @@ def item(lines):
 
 
 class Fn:
-    def __init__(self, of):
+    def __init__(self, of, deep=False):
         self.of = of
+        self.deep = deep
         self.places = {p[0]: (i, p) for i, p in enumerate(of["places"])}
         self.goals = {}
         for (old, new), at in zip(of["needs"], of["asked_at"]):
@@ -85,9 +86,9 @@ class Fn:
 
     def goal(self, word):
         w = plain(word)
-        for cut in ("", "overflow-", "nonzero-"):
-            if w.startswith(cut) and w[len(cut):] in self.goals:
-                return self.goals[w[len(cut):]]
+        for cut, to in (("", ""), ("overflow-", ""), ("nonzero-", ""), ("slice-bounds-", "part-")):
+            if w.startswith(cut) and to + w[len(cut):] in self.goals:
+                return self.goals[to + w[len(cut):]]
         return None
 
     def chain(self, place):
@@ -99,6 +100,17 @@ class Fn:
         return out
 
     def path(self, chain, words):
+        new = self.path_(chain, words)
+        if self.deep and new[0] == "requires":
+            # in a cycle the measure's fact stood first
+            if new[1:2] == ["0"]:
+                return ["decreases"] + new[2:]
+            if new[1:2] == ["1"]:
+                return ["requires"] + new[2:]
+            raise Left("the whole requires in a cycle")
+        return new
+
+    def path_(self, chain, words):
         """The words after c, of a term c.before..X.Y, in the new form; the number of words used and the new words."""
         k = 0
         while k < len(words) and words[k] == "before":
@@ -115,9 +127,8 @@ class Fn:
             if step == "given" or p[1] is None:
                 return [step] + rest
             # (a name that stands in both forms)
-            if step in ("loop",) and old.startswith("loop"):
-                pass
-            else:
+            alike = lambda it: re.sub(r"(?i)is[-_](?=is)|[-_]", "", it).lower()
+            if alike(step) != alike(old):
                 raise Left(f"step {step} is not {old}")
         # arms of later places name it
         own = None
@@ -136,7 +147,7 @@ class Fn:
 def turned(body, binder, fn, chain):
     # a name for a place is the place
     while True:
-        m = re.search(r"\blet (\w+) = " + re.escape(binder) + r"((?:\.before)*) in\s*", body)
+        m = re.search(r"\blet ([\w\-]+) = " + re.escape(binder) + r"((?:\.before)*) in\s*", body)
         if not m:
             break
         body = body[: m.start()] + re.sub(r"(?<![\w'.\-])" + m[1] + r"(?![\w'\-])", binder + m[2], body[m.end() :])
@@ -161,13 +172,21 @@ def loops_of(fn):
 
 
 def convert(text, path, crate, of, keep_trivial=False):
-    fn = Fn(of)
+    """of: the entry of the function, or for a cycle the entry of each by its name."""
+    cycle = path.rsplit("/", 1)[-1].startswith("+")
+    fns = {}
+    if cycle:
+        for it in re.finditer(r"use \S+\.Lts-(\S+) as (\S+)", text):
+            name = next((n for n in of if plain(n) == plain(it[1])), None)
+            if name:
+                fns[it[2]] = Fn(of[name], True)
+    fn = Fn(of) if not cycle else None
     module = f"Rattle.{crate}.proofs." + path.replace("/", ".")
-    answers, helpers, invs, uses = [], [], [], []
+    answers, helpers, invs, uses, named = [], [], [], [], []
     for com, lines in blocks(text):
         if lines[0].startswith("use "):
             joined = "\n".join(l for l in lines if l.strip())
-            if re.search(re.escape(module) + r"\.(Tie|Statement|Lts|Reads|Kinds)\b", joined):
+            if re.search(re.escape(module) + r"\.(Tie|Statement|Lts|Reads|Kinds)\b", joined) or cycle and re.search(re.escape(module) + r"\.(\{|Lts)|borrow\.Fn\.(Kinds|PlainCycle)|\.(Reads|Kinds) as ", joined):
                 continue
             uses.append(joined)
             continue
@@ -175,29 +194,45 @@ def convert(text, path, crate, of, keep_trivial=False):
             raise Left(lines[0])
         mark, name, sig, unf, eqs = item(lines)
         m = re.match(r"^(?:abbrev |pub )*\S+\s*:\s*tie\.(Need-)?(" + W + r")((?:\s+\S+)*)$", " ".join(sig.split()))
-        if name.endswith("_spec") and "statement" in sig:
+        deep = False
+        if cycle:
+            m = re.match(r"^(?:abbrev |pub )*\S+\s*:\s*(?:\((?:t) : ℕ\) → )?(\S+)\.(Need-)?(" + W + r")((?:\s+.*)?)$", " ".join(sig.split()))
+            if m and m[1] in fns and m[3] not in ("Claims",):
+                fn, m = fns[m[1]], (m[0], m[2], m[3])
+                deep = True
+            elif re.search(r"\bIn \d|Measures|\.Claims\b", sig):
+                if "Measures" in sig:
+                    invs.append((com, name, None, eqs))
+                continue
+            else:
+                m = None
+        if re.search(r"[_-]spec$", name) and "statement" in sig:
             continue
         if m and not m[1]:
-            invs.append((com, name, m[2], eqs))
+            invs.append((com, name, (fn, m[2]), eqs))
             continue
         if not m:
-            if re.search(r"\b(tie|lts|reads)\.", sig + eqs):
+            if re.search(r"\b(tie|lts|reads)\.|-lts\.", sig + eqs):
                 raise Left("a helper over places: " + name)
-            helpers.append("\n".join(c for c in com if c.strip()) + ("\n" if com else "") + "\n".join([sig] + unf + ([eqs] if eqs else [])))
+            named.append((name, "\n".join(c for c in com if c.strip()) + ("\n" if com else "") + "\n".join([sig] + unf + ([eqs] if eqs else []))))
+            helpers.append(named[-1][1])
             continue
         goal = fn.goal(m[2])
         if goal is None:
-            raise Left("no goal " + m[2])
+            print(f"dropped: {path}: no goal {m[2]}")
+            continue
         new, at = goal
         h = re.match(r"^\S+((?:\s+[^\s=]+)*)\s+=\s*", eqs)
         if not h:
             raise Left("equations of " + name)
         binders = h[1].split()
         body = eqs[h.end() :]
+        front = []
+        if deep:
+            front, binders = binders[:1], binders[1:]
         if not binders:
             raise Left("no binder of " + name)
-        if len(binders) > 1 and not binders[1].startswith("κ"):
-            raise Left("binders of " + name + " " + h[1])
+        more = [b for b in binders[1:] if not b.startswith("κ")]
         chain = fn.chain(at)
         body = turned(body, binders[0], fn, chain)
         if body.strip() in TRIVIAL and not unf and not keep_trivial:
@@ -205,20 +240,39 @@ def convert(text, path, crate, of, keep_trivial=False):
         if body.strip() in TRIVIAL and "unfolding" not in "\n".join(unf):
             continue
         local = "\n".join(c for c in com if c.strip())
-        answers.append((local + "\n" if local else "") + f"pub {new} : goal.{new}\n" + ("\n".join(unf) + "\n" if unf else "") + f"{new} c = {body}")
+        answers.append((local + "\n" if local else "") + f"pub {new} : goal.{new}\n" + ("\n".join(unf) + "\n" if unf else "") + " ".join([new, *front, "c", *more]) + f" = {body}")
     inv_text = None
     if invs:
-        inv_text = invariants(fn, module, uses, invs)
+        cited = []
+        text_of = {h[0]: h[1] for h in named}
+        todo = [eqs for _, _, _, eqs in invs]
+        while todo:
+            one = todo.pop()
+            for n, t in text_of.items():
+                if n not in cited and re.search(r"(?<![\w'.\-])" + re.escape(n) + r"(?![\w'\-])", one):
+                    cited.append(n)
+                    todo.append(t)
+        moved = [re.sub(r"^((?:--.*\n)*)(?:(abbrev|unfoldable) )?(?:pub )?", lambda m: m[1] + (m[2] + " " if m[2] else "") + "pub ", t) for n, t in named if n in cited]
+        helpers = [t for n, t in named if n not in cited]
+        inv_text = invariants(fns, module, uses, invs, moved)
+        if cited:
+            uses.append(f"use {module}.Invariants.{{{', '.join(n for n, _ in named if n in cited)}}}")
     ans_text = None
     if answers:
         ans_text = "\n".join(uses + [f"use {module}.Goals as goal"]) + "\n\n" + "\n\n".join(helpers + answers) + "\n"
     return ans_text, inv_text
 
 
-def invariants(fn, module, uses, invs):
-    loops, changed = fn.of["loops"], fn.of["changed"]
+def invariants(fns, module, uses, invs, helpers=()):
     out = []
     for com, name, word, eqs in invs:
+        if word is None:
+            note = "\n".join(c for c in com if c.strip())
+            of = name.replace("μ", "").strip("-_")
+            out.append((note + "\n" if note else "") + f"abbrev pub decreases-{of.replace('-', '_')} : goal.decreases-{of.replace('-', '_')}\ndecreases-{of.replace('-', '_')} l = {eqs.split('=', 1)[1].strip()}")
+            continue
+        fn, word = word
+        loops, changed = fn.of["loops"], fn.of["changed"]
         kind, at = re.match(r"^(invariant|decreases)-(.*)$", word).groups()
         k = next((i for i, it in enumerate(loops) if plain(it[0][0]) == plain(at)), None)
         if k is None:
@@ -242,9 +296,14 @@ def invariants(fn, module, uses, invs):
                 elif re.search(r"(?<![\w'.\-])" + re.escape(b) + r"(?![\w'\-])", body):
                     raise Left(f"binder {b} of {name}: {names}")
         body = re.sub(r"(?<![\w'.\-₀])(" + "|".join(re.escape(b) for b in sorted(to, key=len, reverse=True)) + r")(?![\w'\-₀])", lambda m: to[m[1]], body)
+        if re.search(r"(?<![\w'.\-₀])l(?![\w'\-₀])", eqs[h.end() :]):
+            body = re.sub(r"(?<![\w'.\-])l\.(?=(?:initial\.)?(?:" + "|".join(map(re.escape, names)) + r")(?![\w'\-]))", "v.", body)
+            binder = "v"
+        else:
+            binder = "l"
         note = "\n".join(c for c in com if c.strip())
-        out.append((note + "\n" if note else "") + f"abbrev pub {kind}-{new} : goal.{kind}-{new}\n{kind}-{new} l = {body}")
-    return "\n".join(uses + [f"use {module}.Given as goal"]) + "\n\n" + "\n\n".join(out) + "\n"
+        out.append((note + "\n" if note else "") + f"abbrev pub {kind}-{new} : goal.{kind}-{new}\n{kind}-{new} {binder} = {body}")
+    return "\n".join(uses + [f"use {module}.Given as goal"]) + "\n\n" + "\n\n".join([*helpers, *out]) + "\n"
 
 
 def main(argv):
@@ -252,17 +311,24 @@ def main(argv):
     crate = os.path.basename(folder)
     table = json.load(open(names, encoding="utf-8"))
     done = left = 0
+    entries = {}
     for key, of in table.items():
         if ".Lts" not in key:
             continue
-        path = key.split("-proofs.", 1)[1].rsplit(".Lts", 1)[0].replace(".", "/")
+        path, _, name = key.split("-proofs.", 1)[1].rpartition(".Lts")
+        path = path.replace(".", "/")
+        if name:
+            entries.setdefault(path, {})[name[1:]] = of
+        else:
+            entries[path] = of
+    for path, of in entries.items():
         if only and path not in only:
             continue
         where = f"{folder}/proofs/{path}"
         if not os.path.exists(f"{where}/Proof.antt"):
             continue
         text = open(f"{where}/Proof.antt", encoding="utf-8").read()
-        if "tie.close" not in text:
+        if "tie.close" not in text and "/+" not in "/" + path:
             continue
         try:
             ans, inv = convert(text, path, crate, of)

@@ -27,6 +27,7 @@ one_less y K p =
     div-eq_of_lt-le K (omega (arith, a)) (omega (arith, a, b))
 
 less_floor : (Y K W : ℕ) → 0 < Y → 0 < K → (Y * K - 1) / (K * W) ≡ (Y - 1) / W
+less_floor zero K W h p = elim h [ ]
 less_floor (suc y) K W h p = sym (div-div-eq-div-mul (suc y * K - 1) K W) ∙ ap (λ (a : ℕ). a / W) (one_less y K p ∙ omega arith)
 
 down_floor : (q K D H : ℕ) → 0 < K → 0 < D → H ≡ D * K → (q * K + q * K + H - 1) / (2 * H) ≡ (2 * q + D - 1) / (2 * D)

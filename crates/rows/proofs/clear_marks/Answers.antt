@@ -1,0 +1,23 @@
+use borrow.Author.Rules.{rules, scaled_Fits}
+use native.Mathlib.Omega.{arith}
+use mathlib.Core.Path.{◌≡◌, refl, ◌∙◌, ap}
+use mathlib.Core.List.{List, ◌++◌}
+use Prim.Native.Nat.{ℕ, ◌≤◌, ◌-◌}
+use lib.ListN.{length, replicate, drop, set, length-set}
+use Rattle.rows.proofs.Fill.{fill_more, fill_all}
+use Rattle.rows.proofs.clear_marks.Goals as goal
+
+pub loop-i-init : goal.loop-i-init
+loop-i-init c = (search rules, refl, refl)
+
+pub loop-i-preserved : goal.loop-i-preserved
+loop-i-preserved c = let l = c.loop-i in
+    (
+      search rules,
+      simp length-set l.invariant.1,
+      ap (λ (xs : List ℕ). set xs l.i 0) l.invariant.2 ∙ fill_more l.i 0 c.args.marks.now (omega arith),
+    )
+
+pub returns : goal.returns
+returns c = let l = c.loop-i in
+    l.invariant.2 ∙ fill_all l.i 0 c.args.marks.now l.invariant.0 (omega arith)
