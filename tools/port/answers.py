@@ -127,9 +127,15 @@ class Fn:
             if step == "given" or p[1] is None:
                 return [step] + rest
             # (a name that stands in both forms)
-            alike = lambda it: re.sub(r"(?i)is[-_](?=is)|[-_]", "", it).lower()
+            alike = lambda it: re.sub(r"(?i)is[-_](?=is)|[-_]|_contract$", "", it).lower()
             if alike(step) != alike(old):
-                raise Left(f"step {step} is not {old}")
+                # places have come or gone between: by its name
+                found = [j for j, (_, q) in enumerate(chain) if alike(q[2][0]) == alike(step)]
+                if not found:
+                    raise Left(f"step {step} is not {old}")
+                k = min(found, key=lambda j: abs(j - k))
+                i, p = chain[k]
+                old, new = p[2]
         # arms of later places name it
         own = None
         for j in range(k, -1, -1):
@@ -295,7 +301,18 @@ def invariants(fns, module, uses, invs, helpers=()):
                     to[b] = ("l.initial." if b.endswith("₀") else "l.") + n
                 elif re.search(r"(?<![\w'.\-])" + re.escape(b) + r"(?![\w'\-])", body):
                     raise Left(f"binder {b} of {name}: {names}")
-        body = re.sub(r"(?<![\w'.\-₀])(" + "|".join(re.escape(b) for b in sorted(to, key=len, reverse=True)) + r")(?![\w'\-₀])", lambda m: to[m[1]], body)
+        # what a λ inside binds is its own
+        for m in reversed(list(re.finditer(r"λ\s*(?:\(([^\s():]+) :|((?:[^\s().:]+ )*[^\s().:]+)\.)", body))):
+            bound = [m[1]] if m[1] else m[2].split()
+            depth, e = 0, m.start()
+            while e < len(body) and depth >= 0:
+                depth += {"(": 1, ")": -1}.get(body[e], 0)
+                e += 1
+            part = body[m.start() : e]
+            for b in bound:
+                part = re.sub(r"(?<![\w'.\-₀\x00])" + re.escape(b) + r"(?![\w'\-₀])", "\x00" + b, part)
+            body = body[: m.start()] + part + body[e:]
+        body = re.sub(r"(?<![\w'.\-₀\x00])(" + "|".join(re.escape(b) for b in sorted(to, key=len, reverse=True)) + r")(?![\w'\-₀])", lambda m: to[m[1]], body).replace("\x00", "")
         if re.search(r"(?<![\w'.\-₀])l(?![\w'\-₀])", eqs[h.end() :]):
             body = re.sub(r"(?<![\w'.\-])l\.(?=(?:initial\.)?(?:" + "|".join(map(re.escape, names)) + r")(?![\w'\-]))", "v.", body)
             binder = "v"

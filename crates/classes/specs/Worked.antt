@@ -82,6 +82,10 @@ values (inr (inl (inr (inl (inl Top))))) = inl refl
 values (inr (inl (inr (inl (inl Bottom))))) = inl refl
 values (inr (inr (inl (inl Top)))) = inl refl
 values (inr (inr (inl (inl Bottom)))) = inl refl
+values (inr (inl (inr (inl (inr x))))) = elim x [ ]
+values (inr (inl (inr (inr x)))) = elim x [ ]
+values (inr (inr (inl (inr x)))) = elim x [ ]
+values (inr (inr (inr x))) = elim x [ ]
 
 abbrev ClassValues : Float → Type 0
 ClassValues x = Values (val_t bridge) (ClassOf bridge third) x

@@ -19,7 +19,7 @@ loop-i-init c = let a = c.args in (search rules, refl, each_none (box_at a.rows.
 pub loop-i-preserved : goal.loop-i-preserved
 loop-i-preserved c = let l = c.loop-i in
     let a = c.args in
-    (search rules, search rules, each_step (box_at a.rows.now a.marks.now) l.i (pen a.out.now a.at) (pen l.out l.a) (pen c.put_node-a.new.0 c.put_node-a.result) l.invariant.2 c.put_node-a.ensures)
+    (search rules, search rules, each_step (box_at a.rows.now a.marks.now) l.i (pen a.out.now a.at) (pen l.out l.a) (pen c.put_node-a.new.out c.put_node-a.result) l.invariant.2 c.put_node-a.ensures)
 
 pub returns : goal.returns
 returns c = let l = c.loop-i in

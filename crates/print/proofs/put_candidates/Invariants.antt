@@ -14,7 +14,7 @@ use Rattle.print.proofs.put_candidate.Reads as put-candidate-reads
 use Rattle.print.proofs.put_candidates.Given as goal
 
 abbrev pub invariant-loop-i : goal.invariant-loop-i
-invariant-loop-i l = (l.i ≤ l.n) × (length l.out ≡ length l.initial.out) × (pen l.out l.a ≡ put_all (each (λ (l.i : ℕ). candidate_line (candidate_at l.pairs l.triples l.i)) l.i) (pen l.initial.out l.at))
+invariant-loop-i l = (l.i ≤ l.n) × (length l.out ≡ length l.initial.out) × (pen l.out l.a ≡ put_all (each (λ (i : ℕ). candidate_line (candidate_at l.pairs l.triples i)) l.i) (pen l.initial.out l.at))
 
 abbrev pub decreases-loop-i : goal.decreases-loop-i
 decreases-loop-i l = l.n - l.i

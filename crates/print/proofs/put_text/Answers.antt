@@ -17,7 +17,7 @@ loop-i-init c = (search rules, refl, refl)
 pub loop-i-preserved : goal.loop-i-preserved
 loop-i-preserved c = let l = c.loop-i in
     let a = c.args in
-    (search rules, search rules, l.invariant.2 ∙ text_step a.s.now l.i (pen l.out l.a) (pen c.put-a.new.0 c.put-a.result) (omega arith) c.put-a.ensures)
+    (search rules, search rules, l.invariant.2 ∙ text_step a.s.now l.i (pen l.out l.a) (pen c.put-a.new.out c.put-a.result) (omega arith) c.put-a.ensures)
 
 pub returns : goal.returns
 returns c = let l = c.loop-i in

@@ -1,6 +1,6 @@
 use Rattle.rows.specs.Store.{head_bits}
 use Rattle.rows.proofs.head_bits.Goals as goal
 
-pub returns-clause-is : goal.returns-clause-is
+pub returns : goal.returns
 unfolding head_bits
-returns-clause-is c = rw (c.one-4.ensures.is, c.one-3.ensures.is, c.one-2.ensures.is, c.one.ensures.is)
+returns c = rw (c.one-4.ensures.is, c.one-3.ensures.is, c.one-2.ensures.is, c.one.ensures.is)

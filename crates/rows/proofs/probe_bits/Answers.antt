@@ -5,4 +5,4 @@ use Rattle.rows.proofs.probe_bits.Goals as goal
 
 pub returns : goal.returns
 unfolding probe_bits with_code unlaid
-returns c = rw (c.one.ensures.0, c.available_kind-kind.ensures.0)
+returns c = rw (c.one.ensures.is, c.available_kind-kind.ensures.is)
