@@ -38,14 +38,14 @@ function stop(why) {
     next
 }
 /^attributes #0 = / {
-    if ($0 != "attributes #0 = { nounwind \"probe-stack\"=\"inline-asm\" \"target-cpu\"=\"x86-64\" }")
+    if ($0 != "attributes #0 = { nounwind \"probe-stack\"=\"inline-asm\" \"stack-probe-size\"=\"3072\" \"target-cpu\"=\"x86-64-v2\" }")
         stop("other attributes")
     print "attributes #0 = { nounwind " small "}"
     changed++
     next
 }
-/^attributes #1 = / {
-    if ($0 != "attributes #1 = { nocallback nofree nounwind willreturn memory(argmem: readwrite) }") stop("other attributes")
+/^attributes #[12] = / {
+    if ($0 !~ /^attributes #[12] = \{ nocallback nofree nounwind willreturn memory\(argmem: (readwrite|write)\) \}$/) stop("other attributes")
     print
     next
 }
@@ -80,7 +80,7 @@ function stop(why) {
     next
 }
 /^declare / {
-    if ($0 !~ /^declare void @llvm\.memmove\.p0\.p0\.i64\(/) stop("an unknown declaration")
+    if ($0 !~ /^declare void @llvm\.(memmove\.p0\.p0|memset\.p0)\.i64\(/) stop("an unknown declaration")
     print
     next
 }
@@ -93,7 +93,8 @@ function stop(why) {
         if (op == "bitcast" && $4 != "float" && $4 != "i32") stop("an unknown conversion")
         instructions++
     } else if ($1 in kind) {
-        if ($0 ~ /@llvm\./ && $0 !~ /@llvm\.memmove\.p0\.p0\.i64\(ptr [^,]*, ptr [^,]*, i64 [0-9]+, i1 false\)$/)
+        if ($0 ~ /@llvm\./ && $0 !~ /@llvm\.memmove\.p0\.p0\.i64\(ptr [^,]*, ptr [^,]*, i64 [0-9]+, i1 false\)$/ &&
+            $0 !~ /@llvm\.memset\.p0\.i64\(ptr [^,]*, i8 [0-9]+, i64 [0-9]+, i1 false\)$/)
             stop("an unknown call of LLVM")
         instructions++
     } else if ($0 !~ /^    i(8|32) [0-9]+, label %[A-Za-z0-9_.]+$/ && $0 !~ /^  \]$/) stop("an unknown line")

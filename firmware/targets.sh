@@ -27,10 +27,8 @@ need() { # PROGRAM PACKAGE
     command -v "$1" >/dev/null || { echo "$0: $1 is missing (Debian package $2)" >&2; exit 2; }
 }
 
-# Sets home, the kit's folder, and kit, what it has for this machine.
+# Sets kit, the folder of the Rattle toolchain.
 find_kit() {
     command -v rt >/dev/null || { echo "$0: rt is missing (the Rattle toolchain)" >&2; exit 2; }
-    home=${RATTLE_HOME:-$(dirname "$(readlink -f "$(command -v rt)")")/..}
-    home=$(cd "$home" && pwd -P)
-    kit=$home/on/$(uname -m)
+    kit=$(cd "$(dirname "$(readlink -f "$(command -v rt)")")/.." && pwd -P)
 }

@@ -40,10 +40,10 @@ class Layout:
 
 def command(name: str) -> list[str]:
     """As examples/show does: elsewhere than on x86-64 by the toolchain's emulator."""
-    program = TOP / "target" / "bin" / name
+    program = TOP / "crates" / name / "out" / name
     if not os.access(program, os.X_OK):
         script = "show examples/notice.page" if name == "mearrasot" else "replay examples/day.trace"
-        raise Bad(f"target/bin/{name} is missing; examples/{script} proves and builds it")
+        raise Bad(f"crates/{name}/out/{name} is missing; examples/{script} proves and builds it")
     if platform.machine() == "x86_64":
         return [str(program)]
     home = os.environ.get("RATTLE_HOME")

@@ -164,7 +164,7 @@ class Commands(unittest.TestCase):
     def test_missing_program(self):
         with self.assertRaises(Bad) as caught:
             run("no-such-program", "")
-        self.assertIn("target/bin/no-such-program is missing", caught.exception.text)
+        self.assertIn("crates/no-such-program/out/no-such-program is missing", caught.exception.text)
 
     def test_missing_file(self):
         self.assertEqual(call("from-html", "no-such-file.html")[0], 1)

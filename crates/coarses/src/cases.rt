@@ -3,6 +3,7 @@ ghost use Rattle.std.specs.Prelude.{◌≤◌, length};
 
 use crate::show;
 use reading::{copy_numbers, length_at, past, word_at};
+use std::io::Stdout;
 
 // The output as it is lent: -7 everywhere.
 fn lend(out: &mut [i32]) {
@@ -15,19 +16,28 @@ fn lend(out: &mut [i32]) {
 }
 
 // What coarse answers and leaves: words from a to b, marks from c to d.
-fn show_case(all: &[u32], a: usize, b: usize, c: usize, d: usize, rows: &[f32], out: &mut [i32])
+fn show_case(
+    to: Stdout,
+    all: &[u32],
+    a: usize,
+    b: usize,
+    c: usize,
+    d: usize,
+    rows: &[f32],
+    out: &mut [i32],
+)
     requires words { a ≤ b }
     requires rows { b ≤ c }
     requires marks { c ≤ d }
     requires end { d ≤ length all.now }
 {
     let answer = coarse::coarse(&all[a..b], rows, &all[c..d], out);
-    show::answered(answer);
-    show::pixels(out);
+    show::answered(to, answer);
+    show::pixels(to, out);
 }
 
 // A case: the lengths of words, rows, marks and output, then the first three. The slices are cut to their lengths.
-fn run_case(all: &[u32], k: usize, rows: &mut [f32], out: &mut [i32]) -> usize
+fn run_case(to: Stdout, all: &[u32], k: usize, rows: &mut [f32], out: &mut [i32]) -> usize
     requires { k ≤ length all.now }
     ensures { result ≤ length all.now }
 {
@@ -37,21 +47,21 @@ fn run_case(all: &[u32], k: usize, rows: &mut [f32], out: &mut [i32]) -> usize
     let end = past(all, at_marks, word_at(all, k + 2) as usize);
     copy_numbers(all, at_rows, rows);
     lend(out);
-    show_case(all, at_words, at_rows, at_marks, end, rows, out);
+    show_case(to, all, at_words, at_rows, at_marks, end, rows, out);
     end
 }
 
-fn cut_case(all: &[u32], k: usize, rows: &mut [f32], out: &mut [i32]) -> usize
+fn cut_case(to: Stdout, all: &[u32], k: usize, rows: &mut [f32], out: &mut [i32]) -> usize
     requires { k ≤ length all.now }
     ensures { result ≤ length all.now }
 {
     let r = length_at(all, k + 1, rows.len());
     let o = length_at(all, k + 3, out.len());
-    run_case(all, k, &mut rows[..r], &mut out[..o])
+    run_case(to, all, k, &mut rows[..r], &mut out[..o])
 }
 
 // All cases of the first n words, a thousand at most.
-pub fn run(all: &[u32], n: usize, rows: &mut [f32], out: &mut [i32]) {
+pub fn run(to: Stdout, all: &[u32], n: usize, rows: &mut [f32], out: &mut [i32]) {
     let mut k = 0usize;
     let mut cases = 0usize;
     while cases < 1000 {
@@ -59,6 +69,6 @@ pub fn run(all: &[u32], n: usize, rows: &mut [f32], out: &mut [i32]) {
             return;
         }
         cases += 1;
-        k = cut_case(all, k, rows, out);
+        k = cut_case(to, all, k, rows, out);
     }
 }

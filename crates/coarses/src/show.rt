@@ -2,36 +2,36 @@
 ghost use Rattle.std.specs.Prelude.{◌≤◌, ◌^◌};
 
 use coarse::CoarseAnswer;
-use libc::STDOUT_FILENO;
+use std::io::Stdout;
 use steps::Answer;
 
-fn put(t: &[u8]) {
-    io::write_all(STDOUT_FILENO, t);
+fn put(mut to: Stdout, t: &[u8]) {
+    console::write_all(&mut to, t);
 }
 
 // The number of an answer and its place.
-fn answer(number: u32, place: u32) {
-    io::print_decimal(STDOUT_FILENO, number as u64);
-    put(b" ");
-    io::print_decimal(STDOUT_FILENO, place as u64);
+fn answer(mut to: Stdout, number: u32, place: u32) {
+    console::print_decimal(&mut to, number as u64);
+    put(to, b" ");
+    console::print_decimal(&mut to, place as u64);
 }
 
 // One of the noes that coarse shares with the other calls.
-fn refusal(a: Answer) {
+fn refusal(to: Stdout, a: Answer) {
     match a {
-        Answer::Lengths => answer(1, 0),
-        Answer::Tree(i) => answer(2, i.0),
-        Answer::Codes(i) => answer(3, i.0),
-        Answer::NotLaid => answer(7, 0),
-        _ => put(b"another answer"),
+        Answer::Lengths => answer(to, 1, 0),
+        Answer::Tree(i) => answer(to, 2, i.0),
+        Answer::Codes(i) => answer(to, 3, i.0),
+        Answer::NotLaid => answer(to, 7, 0),
+        _ => put(to, b"another answer"),
     }
 }
 
-pub fn answered(a: CoarseAnswer) {
+pub fn answered(to: Stdout, a: CoarseAnswer) {
     match a {
-        CoarseAnswer::Shown => answer(0, 0),
-        CoarseAnswer::Refused(no) => refusal(no),
-        CoarseAnswer::TooFar(i) => answer(12, i.0),
+        CoarseAnswer::Shown => answer(to, 0, 0),
+        CoarseAnswer::Refused(no) => refusal(to, no),
+        CoarseAnswer::TooFar(i) => answer(to, 12, i.0),
     }
 }
 
@@ -47,20 +47,20 @@ fn magnitude(v: i32) -> u32
 }
 
 // A whole number with its sign.
-fn pixel(v: i32) {
+fn pixel(mut to: Stdout, v: i32) {
     if v < 0 {
-        put(b"-");
+        put(to, b"-");
     }
-    io::print_decimal(STDOUT_FILENO, magnitude(v) as u64);
+    console::print_decimal(&mut to, magnitude(v) as u64);
 }
 
 // A line of whole numbers.
-pub fn pixels(a: &[i32]) {
+pub fn pixels(to: Stdout, a: &[i32]) {
     let mut k = 0usize;
     while k < a.len() {
-        put(b" ");
-        pixel(a[k]);
+        put(to, b" ");
+        pixel(to, a[k]);
         k += 1;
     }
-    put(b"\n");
+    put(to, b"\n");
 }

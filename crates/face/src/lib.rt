@@ -1,4 +1,4 @@
-// The public calls for C: plain numbers and slices in, one word of two halves out.
+// The public calls: plain numbers and slices in, one word of two halves out. face_c exports them for C.
 #![tactic(auto)]
 
 ghost use Rattle.std.specs.Prelude.{◌≡◌};
@@ -23,8 +23,7 @@ use scroll::ScrollAnswer;
 use steps::{Answer, Question, RequestedAxis, SizeAnswer};
 
 // A fresh layout of a page.
-#[unsafe(no_mangle)]
-pub extern "C" fn mearrasot_layout(
+pub fn mearrasot_layout(
     words: &[u32],
     numbers: &[f32],
     rows: &mut [f32],
@@ -49,8 +48,7 @@ pub extern "C" fn mearrasot_layout(
 }
 
 // A relayout from the rows as they are lent.
-#[unsafe(no_mangle)]
-pub extern "C" fn mearrasot_relayout(
+pub fn mearrasot_relayout(
     words: &[u32],
     numbers: &[f32],
     rows: &mut [f32],
@@ -99,8 +97,7 @@ fn size_as_profile(
 }
 
 // The size of a page, written to `size`: 0x0 if it is refused.
-#[unsafe(no_mangle)]
-pub extern "C" fn mearrasot_size(
+pub fn mearrasot_size(
     words: &[u32],
     numbers: &[f32],
     size: &mut [f32; 2],
@@ -130,8 +127,7 @@ pub extern "C" fn mearrasot_size(
 }
 
 // The vertical index of a list of leaves.
-#[unsafe(no_mangle)]
-pub extern "C" fn mearrasot_index(
+pub fn mearrasot_index(
     words: &[u32],
     rows: &[f32],
     marks: &[u32],
@@ -147,8 +143,7 @@ pub extern "C" fn mearrasot_index(
 }
 
 // The first position of the index whose bottom is a greater number than y, written to `found`: all ones if there is none.
-#[unsafe(no_mangle)]
-pub extern "C" fn mearrasot_scroll(running: &[f32], y: f32, found: &mut [u64; 1]) -> u64
+pub fn mearrasot_scroll(running: &[f32], y: f32, found: &mut [u64; 1]) -> u64
     ensures { Scrolled (scroll_answer running.now y) found.old result found.new }
 {
     let a = scroll::scroll(running, y);
@@ -166,13 +161,7 @@ pub extern "C" fn mearrasot_scroll(running: &[f32], y: f32, found: &mut [u64; 1]
 }
 
 // Each laid node as a box of whole pixels.
-#[unsafe(no_mangle)]
-pub extern "C" fn mearrasot_coarse(
-    words: &[u32],
-    rows: &[f32],
-    marks: &[u32],
-    out: &mut [i32],
-) -> u64
+pub fn mearrasot_coarse(words: &[u32], rows: &[f32], marks: &[u32], out: &mut [i32]) -> u64
     ensures { CoarseAnswered (coarse_result words.now rows.now marks.now out.old) result out.new }
 {
     let a = coarse::coarse(words, rows, marks, out);
@@ -180,8 +169,7 @@ pub extern "C" fn mearrasot_coarse(
 }
 
 // Whether the rows of a page keep their order: 1 for yes, 0 for no.
-#[unsafe(no_mangle)]
-pub extern "C" fn mearrasot_keeps_order(words: &[u32], numbers: &[f32]) -> u64
+pub fn mearrasot_keeps_order(words: &[u32], numbers: &[f32]) -> u64
     ensures { result ≡ bit (keeps_order words.now numbers.now) }
 {
     let yes = keeps::keeps_order(words, numbers);
@@ -189,8 +177,7 @@ pub extern "C" fn mearrasot_keeps_order(words: &[u32], numbers: &[f32]) -> u64
 }
 
 // Whether a page and a question are of the profile: 0 for yes, else the number and place of the no.
-#[unsafe(no_mangle)]
-pub extern "C" fn mearrasot_in_profile(
+pub fn mearrasot_in_profile(
     words: &[u32],
     numbers: &[f32],
     width: f32,

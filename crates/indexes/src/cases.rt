@@ -3,9 +3,11 @@ ghost use Rattle.std.specs.Prelude.{◌≤◌, length};
 
 use crate::show;
 use reading::{copy_numbers, copy_rows, length_at, past, word_at};
+use std::io::Stdout;
 
 // What make_index answers and leaves: words from a to b, marks from c to d, the list from d to e.
 fn show_index(
+    to: Stdout,
     all: &[u32],
     a: usize,
     b: usize,
@@ -32,10 +34,10 @@ fn show_index(
         bottoms,
         running,
     );
-    show::indexed(answer);
-    show::numbers(tops);
-    show::numbers(bottoms);
-    show::numbers(running);
+    show::indexed(to, answer);
+    show::numbers(to, tops);
+    show::numbers(to, bottoms);
+    show::numbers(to, running);
 }
 
 // Tops, bottoms and running as lent, from `at` on, and where they end.
@@ -59,6 +61,7 @@ fn fill_index(
 
 // An index: the lengths of words, rows, marks, list, tops, bottoms and running, then their words. The slices are cut to their lengths.
 fn run_index(
+    to: Stdout,
     all: &[u32],
     k: usize,
     rows: &mut [f32],
@@ -77,12 +80,13 @@ fn run_index(
     copy_rows(all, at_rows, rows);
     let end = fill_index(all, at_tops, tops, bottoms, running);
     show_index(
-        all, at_words, at_rows, at_marks, at_list, at_tops, rows, tops, bottoms, running,
+        to, all, at_words, at_rows, at_marks, at_list, at_tops, rows, tops, bottoms, running,
     );
     end
 }
 
 fn cut_index(
+    to: Stdout,
     all: &[u32],
     k: usize,
     rows: &mut [f32],
@@ -98,6 +102,7 @@ fn cut_index(
     let b = length_at(all, k + 6, bottoms.len());
     let o = length_at(all, k + 7, running.len());
     run_index(
+        to,
         all,
         k,
         &mut rows[..r],
@@ -108,27 +113,28 @@ fn cut_index(
 }
 
 // The slice of a scroll key from `at` on, and its answer.
-fn run_scroll(all: &[u32], at: usize, y: f32, running: &mut [f32]) -> usize
+fn run_scroll(to: Stdout, all: &[u32], at: usize, y: f32, running: &mut [f32]) -> usize
     requires { at ≤ length all.now }
     ensures { result ≤ length all.now }
 {
     copy_numbers(all, at, running);
-    show::found(scroll::scroll(running, y));
+    show::found(to, scroll::scroll(running, y));
     past(all, at, running.len())
 }
 
 // A scroll key: the length of the slice, y, then the slice.
-fn cut_scroll(all: &[u32], k: usize, running: &mut [f32]) -> usize
+fn cut_scroll(to: Stdout, all: &[u32], k: usize, running: &mut [f32]) -> usize
     requires { k ≤ length all.now }
     ensures { result ≤ length all.now }
 {
     let n = length_at(all, k + 1, running.len());
     let y = text::float_of(word_at(all, k + 2));
-    run_scroll(all, past(all, k, 3), y, &mut running[..n])
+    run_scroll(to, all, past(all, k, 3), y, &mut running[..n])
 }
 
 // All cases of the first n words, a thousand at most.
 pub fn run(
+    to: Stdout,
     all: &[u32],
     n: usize,
     rows: &mut [f32],
@@ -144,9 +150,9 @@ pub fn run(
         }
         cases += 1;
         if word_at(all, k) == 0 {
-            k = cut_index(all, k, rows, tops, bottoms, running);
+            k = cut_index(to, all, k, rows, tops, bottoms, running);
         } else {
-            k = cut_scroll(all, k, running);
+            k = cut_scroll(to, all, k, running);
         }
     }
 }

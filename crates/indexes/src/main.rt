@@ -4,16 +4,22 @@
 mod cases;
 mod show;
 
-use libc::STDIN_FILENO;
-
-fn main() {
+fn main(rt: HostRuntime) {
     let mut text = [0u8; 262144];
     let mut all = [0u32; 24000];
     let mut rows = [0.0f32; 4352];
     let mut tops = [0.0f32; 300];
     let mut bottoms = [0.0f32; 300];
     let mut running = [0.0f32; 300];
-    let n = io::read_full(STDIN_FILENO, &mut text);
+    let n = console::read_full(&mut rt.stdin(), &mut text);
     let k = reading::read_words(&text[..n], &mut all);
-    cases::run(&all, k, &mut rows, &mut tops, &mut bottoms, &mut running);
+    cases::run(
+        rt.stdout(),
+        &all,
+        k,
+        &mut rows,
+        &mut tops,
+        &mut bottoms,
+        &mut running,
+    );
 }

@@ -3,6 +3,7 @@ ghost use Rattle.std.specs.Prelude.{◌≤◌, length};
 
 use crate::show;
 use reading::{copy_numbers, length_at, past, word_at};
+use std::io::Stdout;
 
 fn copy_words(all: &[u32], from: usize, out: &mut [u32])
     requires { from ≤ length all.now }
@@ -17,6 +18,7 @@ fn copy_words(all: &[u32], from: usize, out: &mut [u32])
 
 // The page, both panels, how many events; then they are played, and what both are left with is printed.
 fn run_lent(
+    to: Stdout,
     all: &[u32],
     k: usize,
     words: &mut [u32],
@@ -45,6 +47,7 @@ fn run_lent(
     copy_words(all, at_words, words);
     copy_numbers(all, at_numbers, numbers);
     let end = plays::play(
+        to,
         all,
         at_events,
         count,
@@ -62,13 +65,13 @@ fn run_lent(
         triples,
         &mut list,
     );
-    show::panel(hall_rows, hall_marks, hall_pairs, hall_triples);
-    show::panel(rows, marks, pairs, triples);
+    show::panel(to, hall_rows, hall_marks, hall_pairs, hall_triples);
+    show::panel(to, rows, marks, pairs, triples);
     end
 }
 
 // A case: how many words and numbers it has, how many records each panel is lent, how many events; then what run_lent reads.
-fn run_case(all: &[u32], k: usize) -> usize
+fn run_case(to: Stdout, all: &[u32], k: usize) -> usize
     requires { k ≤ length all.now }
     ensures { result ≤ length all.now }
 {
@@ -88,6 +91,7 @@ fn run_case(all: &[u32], k: usize) -> usize
     let h = length_at(all, k + 2, 8);
     let r = length_at(all, k + 3, 8);
     run_lent(
+        to,
         all,
         k,
         &mut words[..w],
@@ -104,7 +108,7 @@ fn run_case(all: &[u32], k: usize) -> usize
 }
 
 // All cases of the first n words, a thousand at most.
-pub fn run(all: &[u32], n: usize) {
+pub fn run(to: Stdout, all: &[u32], n: usize) {
     let mut k = 0usize;
     let mut cases = 0usize;
     while cases < 1000 {
@@ -112,6 +116,6 @@ pub fn run(all: &[u32], n: usize) {
             return;
         }
         cases += 1;
-        k = run_case(all, k);
+        k = run_case(to, all, k);
     }
 }

@@ -4,12 +4,10 @@
 mod cases;
 mod show;
 
-use libc::STDIN_FILENO;
-
-fn main() {
+fn main(rt: HostRuntime) {
     let mut text = [0u8; 262144];
     let mut all = [0u32; 28000];
-    let n = io::read_full(STDIN_FILENO, &mut text);
+    let n = console::read_full(&mut rt.stdin(), &mut text);
     let k = reading::read_words(&text[..n], &mut all);
-    cases::run(&all, k);
+    cases::run(rt.stdout(), &all, k);
 }

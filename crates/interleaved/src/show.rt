@@ -1,39 +1,39 @@
 // Writes slices.
-use libc::STDOUT_FILENO;
+use std::io::Stdout;
 
-fn put(t: &[u8]) {
-    io::write_all(STDOUT_FILENO, t);
+fn put(mut to: Stdout, t: &[u8]) {
+    console::write_all(&mut to, t);
 }
 
-fn hex(w: u32) {
-    put(b" ");
-    io::print_hex(STDOUT_FILENO, w as u64, 8);
+fn hex(mut to: Stdout, w: u32) {
+    put(to, b" ");
+    console::print_hex(&mut to, w);
 }
 
 // A line of bit patterns.
-fn numbers(a: &[f32]) {
+fn numbers(to: Stdout, a: &[f32]) {
     let mut k = 0usize;
     while k < a.len() {
-        hex(text::bits_of(a[k]));
+        hex(to, text::bits_of(a[k]));
         k += 1;
     }
-    put(b"\n");
+    put(to, b"\n");
 }
 
 // A line of words.
-fn words(a: &[u32]) {
+fn words(to: Stdout, a: &[u32]) {
     let mut k = 0usize;
     while k < a.len() {
-        hex(a[k]);
+        hex(to, a[k]);
         k += 1;
     }
-    put(b"\n");
+    put(to, b"\n");
 }
 
 // What a panel is left with.
-pub fn panel(rows: &[f32], marks: &[u32], pairs: &[u32], triples: &[f32]) {
-    numbers(rows);
-    words(marks);
-    words(pairs);
-    numbers(triples);
+pub fn panel(to: Stdout, rows: &[f32], marks: &[u32], pairs: &[u32], triples: &[f32]) {
+    numbers(to, rows);
+    words(to, marks);
+    words(to, pairs);
+    numbers(to, triples);
 }

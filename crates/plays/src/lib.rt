@@ -6,16 +6,16 @@ ghost use Rattle.std.specs.Prelude.{◌≤◌, length};
 mod events;
 
 use day::State;
-use libc::STDOUT_FILENO;
 use reading::{past, word_at};
+use std::io::Stdout;
 use steps::{Answer, number_of, place_of};
 
 // The number of an answer and its place, on a line.
-fn show(a: Answer) {
-    io::print_decimal(STDOUT_FILENO, number_of(a) as u64);
-    io::write_all(STDOUT_FILENO, b" ");
-    io::print_decimal(STDOUT_FILENO, place_of(a) as u64);
-    io::write_all(STDOUT_FILENO, b"\n");
+fn show(mut to: Stdout, a: Answer) {
+    console::print_decimal(&mut to, number_of(a) as u64);
+    console::write_all(&mut to, b" ");
+    console::print_decimal(&mut to, place_of(a) as u64);
+    console::write_all(&mut to, b"\n");
 }
 
 // How both panels stand.
@@ -42,6 +42,7 @@ fn with_count(s: State, count: usize) -> State {
 
 // An event of one panel, and its answer.
 fn turn(
+    to: Stdout,
     all: &[u32],
     k: usize,
     s: State,
@@ -72,7 +73,7 @@ fn turn(
         other_list,
     );
     let answer = t.answer;
-    show(answer);
+    show(to, answer);
     let hall = t.state;
     let kitchen = with_count(other, t.other);
     Two { hall, kitchen }
@@ -86,6 +87,7 @@ fn swapped(t: Two) -> Two {
 
 // The event at word k, of the panel that it names.
 fn event(
+    to: Stdout,
     all: &[u32],
     k: usize,
     t: Two,
@@ -108,6 +110,7 @@ fn event(
     let b = t.kitchen;
     if word_at(all, k + 1) == 0 {
         return turn(
+            to,
             all,
             k,
             a,
@@ -123,12 +126,13 @@ fn event(
         );
     }
     swapped(turn(
-        all, k, b, a, words, numbers, rows, marks, pairs, triples, list, hall_list,
+        to, all, k, b, a, words, numbers, rows, marks, pairs, triples, list, hall_list,
     ))
 }
 
 // So many events from word `from` on, and where they end.
 pub fn play(
+    to: Stdout,
     all: &[u32],
     from: usize,
     count: usize,
@@ -154,6 +158,7 @@ pub fn play(
     let mut j = 0usize;
     while j < count {
         t = event(
+            to,
             all,
             at,
             t,

@@ -8,6 +8,7 @@ mod show;
 use lay::Recorded;
 use length::AvailableSpace;
 use records::Record;
+use std::io::Stdout;
 use steps::{Answer, Question};
 use tree::{NodeId, Order};
 use util::{OptionF32, OptionSize};
@@ -41,6 +42,7 @@ fn blank() -> Record {
 
 // Answer, records, pairs, triples, rows and marks of the two calls.
 fn compare(
+    to: Stdout,
     r: Recorded,
     rows: &[f32],
     marks: &[u32],
@@ -56,22 +58,23 @@ fn compare(
     let first = records[0];
     let second = records[1];
     let answer = r.answer;
-    show::answers(answer, a);
-    show::record(first, plain_pairs, plain_triples, 0);
-    show::record(second, plain_pairs, plain_triples, 1);
+    show::answers(to, answer, a);
+    show::record(to, first, plain_pairs, plain_triples, 0);
+    show::record(to, second, plain_pairs, plain_triples, 1);
     let kept = same::numbers(rows, plain_rows) & same::words(marks, plain_marks);
     let list = same::words(pairs, plain_pairs) & same::numbers(triples, plain_triples);
     let told = show::is_record(first, plain_pairs, plain_triples, 0)
         & show::is_record(second, plain_pairs, plain_triples, 1);
     if kept & list & told & same::answers(answer, a) {
-        show::text(b"  same answer, records, rows and marks\n");
+        show::text(to, b"  same answer, records, rows and marks\n");
     } else {
-        show::text(b"  DIFFERENT\n");
+        show::text(to, b"  DIFFERENT\n");
     }
 }
 
 // A layout over records, and a plain one.
 fn laid(
+    to: Stdout,
     words: &[u32],
     numbers: &[f32],
     rows: &mut [f32],
@@ -104,6 +107,7 @@ fn laid(
         q,
     );
     compare(
+        to,
         r,
         rows,
         marks,
@@ -119,6 +123,7 @@ fn laid(
 
 // A relayout over records, and a plain one.
 fn relaid(
+    to: Stdout,
     words: &[u32],
     numbers: &[f32],
     rows: &mut [f32],
@@ -154,6 +159,7 @@ fn relaid(
         q,
     );
     compare(
+        to,
         r,
         rows,
         marks,
@@ -169,6 +175,7 @@ fn relaid(
 
 // The badge and the seal are listed; the mark is hidden.
 fn first(
+    to: Stdout,
     words: &mut [u32],
     numbers: &mut [f32],
     rows: &mut [f32],
@@ -177,12 +184,13 @@ fn first(
     plain_marks: &mut [u32],
 ) {
     page::fill(words, numbers);
-    show::text(b"\n1. A layout: the badge and the seal.\n");
-    laid(words, numbers, rows, marks, plain_rows, plain_marks);
+    show::text(to, b"\n1. A layout: the badge and the seal.\n");
+    laid(to, words, numbers, rows, marks, plain_rows, plain_marks);
 }
 
 // Both lines move down by as much.
 fn heading_grows(
+    to: Stdout,
     words: &mut [u32],
     numbers: &mut [f32],
     rows: &mut [f32],
@@ -191,12 +199,25 @@ fn heading_grows(
     plain_marks: &mut [u32],
 ) {
     page::put(numbers, page::HEADING, page::HEIGHT, 32.0);
-    show::text(b"\n2. The heading grows from 20 to 32 pixels. A relayout, edit 1.\n");
-    relaid(words, numbers, rows, marks, plain_rows, plain_marks, &[1]);
+    show::text(
+        to,
+        b"\n2. The heading grows from 20 to 32 pixels. A relayout, edit 1.\n",
+    );
+    relaid(
+        to,
+        words,
+        numbers,
+        rows,
+        marks,
+        plain_rows,
+        plain_marks,
+        &[1],
+    );
 }
 
 // Refusal 5, from both calls: all stays as lent.
 fn mark_is_shown(
+    to: Stdout,
     words: &mut [u32],
     numbers: &mut [f32],
     rows: &mut [f32],
@@ -206,15 +227,26 @@ fn mark_is_shown(
 ) {
     page::style(words, page::MARK, page::LEAF | page::OUT);
     show::text(
+        to,
         b"\n3. The mark is shown, out of the flow: three records are needed. A relayout, edit 4.\n",
     );
-    relaid(words, numbers, rows, marks, plain_rows, plain_marks, &[4]);
-    show::text(b"\n4. A layout of the same page.\n");
-    laid(words, numbers, rows, marks, plain_rows, plain_marks);
+    relaid(
+        to,
+        words,
+        numbers,
+        rows,
+        marks,
+        plain_rows,
+        plain_marks,
+        &[4],
+    );
+    show::text(to, b"\n4. A layout of the same page.\n");
+    laid(to, words, numbers, rows, marks, plain_rows, plain_marks);
 }
 
 // The badge and the mark, from the rows that 2 left.
 fn seal_is_hidden(
+    to: Stdout,
     words: &mut [u32],
     numbers: &mut [f32],
     rows: &mut [f32],
@@ -223,8 +255,9 @@ fn seal_is_hidden(
     plain_marks: &mut [u32],
 ) {
     page::style(words, page::SEAL, page::HIDDEN);
-    show::text(b"\n5. The seal is hidden. A relayout, edits 4 and 6.\n");
+    show::text(to, b"\n5. The seal is hidden. A relayout, edits 4 and 6.\n");
     relaid(
+        to,
         words,
         numbers,
         rows,
@@ -237,6 +270,7 @@ fn seal_is_hidden(
 
 // One record is written, the other stays as lent. The seal's order counts no hidden row.
 fn row_is_hidden(
+    to: Stdout,
     words: &mut [u32],
     numbers: &mut [f32],
     rows: &mut [f32],
@@ -246,11 +280,15 @@ fn row_is_hidden(
 ) {
     page::style(words, page::ROW, page::HIDDEN);
     page::style(words, page::SEAL, page::LEAF | page::OUT);
-    show::text(b"\n6. The row is hidden with all in it, and the seal is back. A layout.\n");
-    laid(words, numbers, rows, marks, plain_rows, plain_marks);
+    show::text(
+        to,
+        b"\n6. The row is hidden with all in it, and the seal is back. A layout.\n",
+    );
+    laid(to, words, numbers, rows, marks, plain_rows, plain_marks);
 }
 
-fn main() {
+fn main(rt: HostRuntime) {
+    let to = rt.stdout();
     let mut words = [0u32; 32];
     let mut numbers = [0.0f32; 224];
     let mut rows = [0.0f32; 128];
@@ -258,9 +296,11 @@ fn main() {
     let mut plain_rows = [0.0f32; 128];
     let mut plain_marks = [0u32; 16];
     show::text(
+        to,
         b"node order start end line over records | plain; two records are lent as 99 99 -1 -1 -1\n",
     );
     first(
+        to,
         &mut words,
         &mut numbers,
         &mut rows,
@@ -269,6 +309,7 @@ fn main() {
         &mut plain_marks,
     );
     heading_grows(
+        to,
         &mut words,
         &mut numbers,
         &mut rows,
@@ -277,6 +318,7 @@ fn main() {
         &mut plain_marks,
     );
     mark_is_shown(
+        to,
         &mut words,
         &mut numbers,
         &mut rows,
@@ -285,6 +327,7 @@ fn main() {
         &mut plain_marks,
     );
     seal_is_hidden(
+        to,
         &mut words,
         &mut numbers,
         &mut rows,
@@ -293,6 +336,7 @@ fn main() {
         &mut plain_marks,
     );
     row_is_hidden(
+        to,
         &mut words,
         &mut numbers,
         &mut rows,

@@ -1,49 +1,49 @@
 // Writes two answers side by side.
 use lent::{number_at, word_at};
-use libc::STDOUT_FILENO;
 use records::Record;
+use std::io::Stdout;
 use steps::{Answer, number_of, place_of};
 use text::bits_of;
 use tree::{NodeId, Order};
 
-pub fn text(t: &[u8]) {
-    io::write_all(STDOUT_FILENO, t);
+pub fn text(mut to: Stdout, t: &[u8]) {
+    console::write_all(&mut to, t);
 }
 
-fn count(n: u32) {
-    text(b" ");
-    io::print_decimal(STDOUT_FILENO, n as u64);
+fn count(mut to: Stdout, n: u32) {
+    text(to, b" ");
+    console::print_decimal(&mut to, n as u64);
 }
 
 // A number by its bits, as the page file has it.
-fn number(x: f32) {
-    text(b" ");
-    io::print_hex(STDOUT_FILENO, bits_of(x) as u64, 8);
+fn number(mut to: Stdout, x: f32) {
+    text(to, b" ");
+    console::print_hex(&mut to, bits_of(x));
 }
 
-fn counts(node: NodeId, order: Order) {
-    count(node.0);
-    count(order.0);
+fn counts(to: Stdout, node: NodeId, order: Order) {
+    count(to, node.0);
+    count(to, order.0);
 }
 
-fn numbers(start: f32, end: f32, line: f32) {
-    number(start);
-    number(end);
-    number(line);
+fn numbers(to: Stdout, start: f32, end: f32, line: f32) {
+    number(to, start);
+    number(to, end);
+    number(to, line);
 }
 
 // Number and place.
-fn answer(a: Answer) {
-    count(number_of(a));
-    count(place_of(a));
+fn answer(to: Stdout, a: Answer) {
+    count(to, number_of(a));
+    count(to, place_of(a));
 }
 
-pub fn answers(a: Answer, b: Answer) {
-    text(b"  answer");
-    answer(a);
-    text(b" |");
-    answer(b);
-    text(b"\n");
+pub fn answers(to: Stdout, a: Answer, b: Answer) {
+    text(to, b"  answer");
+    answer(to, a);
+    text(to, b" |");
+    answer(to, b);
+    text(to, b"\n");
 }
 
 // Record k of the plain slices.
@@ -66,17 +66,17 @@ fn plain(pairs: &[u32], triples: &[f32], k: usize) -> Record {
     }
 }
 
-fn one(r: Record) {
-    counts(r.node, r.order);
-    numbers(r.start, r.end, r.line);
+fn one(to: Stdout, r: Record) {
+    counts(to, r.node, r.order);
+    numbers(to, r.start, r.end, r.line);
 }
 
-pub fn record(r: Record, pairs: &[u32], triples: &[f32], k: usize) {
-    text(b"  record");
-    one(r);
-    text(b" |");
-    one(plain(pairs, triples, k));
-    text(b"\n");
+pub fn record(to: Stdout, r: Record, pairs: &[u32], triples: &[f32], k: usize) {
+    text(to, b"  record");
+    one(to, r);
+    text(to, b" |");
+    one(to, plain(pairs, triples, k));
+    text(to, b"\n");
 }
 
 // Is it record k of the plain slices, to the last bit?

@@ -1,16 +1,16 @@
 // Writes rows and candidates, two answers side by side.
 use crate::page::{NODES, RECORDS};
-use libc::STDOUT_FILENO;
+use std::io::Stdout;
 use steps::{Answer, number_of, place_of};
 use text::bits_of;
 use tree::{NodeId, Order};
 
-pub fn text(t: &[u8]) {
-    io::write_all(STDOUT_FILENO, t);
+pub fn text(mut to: Stdout, t: &[u8]) {
+    console::write_all(&mut to, t);
 }
 
-pub fn count(n: u32) {
-    io::print_decimal(STDOUT_FILENO, n as u64);
+pub fn count(mut to: Stdout, n: u32) {
+    console::print_decimal(&mut to, n as u64);
 }
 
 fn word_at(a: &[u32], i: usize) -> u32 {
@@ -22,64 +22,64 @@ fn number_at(a: &[f32], i: usize) -> f32 {
 }
 
 // The bits of a number that is no whole number of pixels.
-fn pattern(bits: u32) {
-    text(b"0x");
-    io::print_hex(STDOUT_FILENO, bits as u64, 8);
+fn pattern(mut to: Stdout, bits: u32) {
+    text(to, b"0x");
+    console::print_hex(&mut to, bits);
 }
 
 // A number from 1 on, by its bits: 23 of them and a leading 1, shifted by what the exponent lacks to 150.
-fn magnitude(bits: u32) {
+fn magnitude(to: Stdout, bits: u32) {
     let exponent = bits >> 23;
     if exponent < 127 {
-        pattern(bits);
+        pattern(to, bits);
         return;
     }
     if exponent > 150 {
-        pattern(bits);
+        pattern(to, bits);
         return;
     }
     let digits = (bits & 0x7f_ffff) | 0x80_0000;
     let whole = digits >> (150 - exponent);
     if whole << (150 - exponent) == digits {
-        count(whole);
+        count(to, whole);
     } else {
-        pattern(bits);
+        pattern(to, bits);
     }
 }
 
 // Whole pixels in decimal, with the sign of a zero too; any other number by its sign and the bits of the rest.
-fn number(x: f32) {
+fn number(to: Stdout, x: f32) {
     let bits = bits_of(x);
     if bits >= 0x8000_0000 {
-        text(b"-");
+        text(to, b"-");
     }
     let unsigned = bits & 0x7fff_ffff;
     if unsigned == 0 {
-        text(b"0");
+        text(to, b"0");
     } else {
-        magnitude(unsigned);
+        magnitude(to, unsigned);
     }
 }
 
-fn answer(a: Answer) {
-    text(b" ");
-    count(number_of(a));
-    text(b" ");
-    count(place_of(a));
+fn answer(to: Stdout, a: Answer) {
+    text(to, b" ");
+    count(to, number_of(a));
+    text(to, b" ");
+    count(to, place_of(a));
 }
 
 // A line for the numbers and places of two answers, if one of them is a refusal.
-pub fn refusals(a: Answer, b: Answer) {
+pub fn refusals(to: Stdout, a: Answer, b: Answer) {
     if number_of(a) == 0 {
         if number_of(b) == 0 {
             return;
         }
     }
-    text(b"  answers");
-    answer(a);
-    text(b" |");
-    answer(b);
-    text(b"\n");
+    text(to, b"  answers");
+    answer(to, a);
+    text(to, b" |");
+    answer(to, b);
+    text(to, b"\n");
 }
 
 // Number k of row i.
@@ -101,61 +101,62 @@ fn is_laid(marks: &[u32], i: usize) -> bool {
 }
 
 // Place and size.
-fn row(rows: &[f32], i: usize) {
-    text(b" ");
-    number(row_number(rows, i, 0));
-    text(b" ");
-    number(row_number(rows, i, 1));
-    text(b" ");
-    number(row_number(rows, i, 2));
-    text(b" ");
-    number(row_number(rows, i, 3));
+fn row(to: Stdout, rows: &[f32], i: usize) {
+    text(to, b" ");
+    number(to, row_number(rows, i, 0));
+    text(to, b" ");
+    number(to, row_number(rows, i, 1));
+    text(to, b" ");
+    number(to, row_number(rows, i, 2));
+    text(to, b" ");
+    number(to, row_number(rows, i, 3));
 }
 
 // A line for a laid node; a node that only one of the two laid has a line as well.
-fn node(rows: &[f32], marks: &[u32], fresh: &[f32], fresh_marks: &[u32], i: usize) {
+fn node(mut to: Stdout, rows: &[f32], marks: &[u32], fresh: &[f32], fresh_marks: &[u32], i: usize) {
     if !is_laid(marks, i) {
         if !is_laid(fresh_marks, i) {
             return;
         }
     }
-    text(b"  ");
-    io::print_decimal(STDOUT_FILENO, i as u64);
-    text(b":");
-    row(rows, i);
-    text(b" |");
-    row(fresh, i);
-    text(b"\n");
+    text(to, b"  ");
+    console::print_decimal(&mut to, i as u64);
+    text(to, b":");
+    row(to, rows, i);
+    text(to, b" |");
+    row(to, fresh, i);
+    text(to, b"\n");
 }
 
-pub fn nodes(rows: &[f32], marks: &[u32], fresh: &[f32], fresh_marks: &[u32]) {
+pub fn nodes(to: Stdout, rows: &[f32], marks: &[u32], fresh: &[f32], fresh_marks: &[u32]) {
     let mut i = 0usize;
     while i < NODES {
-        node(rows, marks, fresh, fresh_marks, i);
+        node(to, rows, marks, fresh, fresh_marks, i);
         i += 1;
     }
 }
 
 // Node, order, start, end and line of record k.
-fn record(pairs: &[u32], triples: &[f32], k: usize) {
+fn record(to: Stdout, pairs: &[u32], triples: &[f32], k: usize) {
     if k < RECORDS {
         let node = NodeId(word_at(pairs, 2 * k));
         let order = Order(word_at(pairs, 2 * k + 1));
-        text(b" ");
-        count(node.0);
-        text(b" ");
-        count(order.0);
-        text(b" ");
-        number(number_at(triples, 3 * k));
-        text(b" ");
-        number(number_at(triples, 3 * k + 1));
-        text(b" ");
-        number(number_at(triples, 3 * k + 2));
+        text(to, b" ");
+        count(to, node.0);
+        text(to, b" ");
+        count(to, order.0);
+        text(to, b" ");
+        number(to, number_at(triples, 3 * k));
+        text(to, b" ");
+        number(to, number_at(triples, 3 * k + 1));
+        text(to, b" ");
+        number(to, number_at(triples, 3 * k + 2));
     }
 }
 
 // A line for record k, if it is below the count.
 fn candidate(
+    to: Stdout,
     n: u32,
     pairs: &[u32],
     triples: &[f32],
@@ -164,15 +165,16 @@ fn candidate(
     k: usize,
 ) {
     if k < n as usize {
-        text(b"  candidate");
-        record(pairs, triples, k);
-        text(b" |");
-        record(fresh_pairs, fresh_triples, k);
-        text(b"\n");
+        text(to, b"  candidate");
+        record(to, pairs, triples, k);
+        text(to, b" |");
+        record(to, fresh_pairs, fresh_triples, k);
+        text(to, b"\n");
     }
 }
 
 pub fn candidates(
+    to: Stdout,
     n: u32,
     pairs: &[u32],
     triples: &[f32],
@@ -181,7 +183,7 @@ pub fn candidates(
 ) {
     let mut k = 0usize;
     while k < RECORDS {
-        candidate(n, pairs, triples, fresh_pairs, fresh_triples, k);
+        candidate(to, n, pairs, triples, fresh_pairs, fresh_triples, k);
         k += 1;
     }
 }

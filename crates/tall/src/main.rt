@@ -4,7 +4,7 @@
 ghost use Rattle.std.specs.Prelude.{◌<◌};
 
 use length::AvailableSpace;
-use libc::STDOUT_FILENO;
+use std::io::Stdout;
 use steps::{Answer, Question};
 use util::{OptionF32, OptionSize};
 
@@ -54,36 +54,36 @@ fn question() -> Question {
     }
 }
 
-fn show_height(height: f32) {
+fn show_height(mut to: Stdout, height: f32) {
     if height == 16777215.0 {
-        io::write_all(STDOUT_FILENO, b", height 16777215\n");
+        console::write_all(&mut to, b", height 16777215\n");
         return;
     }
     if height == 0.0 {
-        io::write_all(STDOUT_FILENO, b", height 0\n");
+        console::write_all(&mut to, b", height 0\n");
         return;
     }
-    io::write_all(STDOUT_FILENO, b", another height\n");
+    console::write_all(&mut to, b", another height\n");
 }
 
-fn show(a: Answer, height: f32) {
+fn show(mut to: Stdout, a: Answer, height: f32) {
     match a {
         Answer::Done(n) => {
-            io::write_all(STDOUT_FILENO, b"done ");
-            io::print_decimal(STDOUT_FILENO, n as u64);
+            console::write_all(&mut to, b"done ");
+            console::print_decimal(&mut to, n as u64);
         }
         Answer::TooLarge(i) => {
-            io::write_all(STDOUT_FILENO, b"too large ");
-            io::print_decimal(STDOUT_FILENO, i.0 as u64);
+            console::write_all(&mut to, b"too large ");
+            console::print_decimal(&mut to, i.0 as u64);
         }
         _ => {
-            io::write_all(STDOUT_FILENO, b"refused");
+            console::write_all(&mut to, b"refused");
         }
     }
-    show_height(height);
+    show_height(to, height);
 }
 
-fn main() {
+fn main(rt: HostRuntime) {
     let mut words = [0u32; 1028];
     let mut numbers = [0.0f32; 7196];
     let mut rows = [0.0f32; 4112];
@@ -105,7 +105,7 @@ fn main() {
         &mut triples,
         q,
     );
-    show(a, rows[3]);
+    show(rt.stdout(), a, rows[3]);
     numbers[513] = 65536.0;
     let b = layout::layout(
         &words,
@@ -116,5 +116,5 @@ fn main() {
         &mut triples,
         q,
     );
-    show(b, rows[3]);
+    show(rt.stdout(), b, rows[3]);
 }

@@ -3,7 +3,7 @@
 
 ghost use Rattle.std.specs.Prelude.{◌≤◌, length};
 
-use libc::{STDIN_FILENO, STDOUT_FILENO};
+use std::io::Stdout;
 
 // Where the next mark stands, or the end.
 fn next_mark(text: &[u8], from: usize) -> usize
@@ -21,17 +21,17 @@ fn next_mark(text: &[u8], from: usize) -> usize
 }
 
 // What one trace gives, and a mark.
-fn show(trace: &[u8], out: &mut [u8]) {
+fn show(mut to: Stdout, trace: &[u8], out: &mut [u8]) {
     let k = replays::replay_output(trace, out);
-    io::write_all(STDOUT_FILENO, &out[..k]);
-    io::write_all(STDOUT_FILENO, b"====\n");
+    console::write_all(&mut to, &out[..k]);
+    console::write_all(&mut to, b"====\n");
 }
 
-fn run(text: &[u8], out: &mut [u8]) {
+fn run(to: Stdout, text: &[u8], out: &mut [u8]) {
     let mut at = 0usize;
     while at < text.len() {
         let e = next_mark(text, at);
-        show(&text[at..e], out);
+        show(to, &text[at..e], out);
         if text.len() - e < 5 {
             return;
         }
@@ -39,9 +39,9 @@ fn run(text: &[u8], out: &mut [u8]) {
     }
 }
 
-fn main() {
+fn main(rt: HostRuntime) {
     let mut text = [0u8; 524288];
     let mut out = [0u8; 327680];
-    let n = io::read_full(STDIN_FILENO, &mut text);
-    run(&text[..n], &mut out);
+    let n = console::read_full(&mut rt.stdin(), &mut text);
+    run(rt.stdout(), &text[..n], &mut out);
 }

@@ -3,7 +3,7 @@
 
 ghost use Rattle.std.specs.Prelude.{◌≤◌, length};
 
-use libc::{STDIN_FILENO, STDOUT_FILENO};
+use std::io::Stdout;
 
 // Where the next mark stands, or the end.
 fn next_mark(text: &[u8], from: usize) -> usize
@@ -21,17 +21,17 @@ fn next_mark(text: &[u8], from: usize) -> usize
 }
 
 // What one page gives, and a mark.
-fn show(page: &[u8], out: &mut [u8]) {
+fn show(mut to: Stdout, page: &[u8], out: &mut [u8]) {
     let k = pages::page_output(page, out);
-    io::write_all(STDOUT_FILENO, &out[..k]);
-    io::write_all(STDOUT_FILENO, b"====\n");
+    console::write_all(&mut to, &out[..k]);
+    console::write_all(&mut to, b"====\n");
 }
 
-fn run(text: &[u8], out: &mut [u8]) {
+fn run(to: Stdout, text: &[u8], out: &mut [u8]) {
     let mut at = 0usize;
     while at < text.len() {
         let e = next_mark(text, at);
-        show(&text[at..e], out);
+        show(to, &text[at..e], out);
         if text.len() - e < 5 {
             return;
         }
@@ -59,28 +59,28 @@ fn repeat(text: &mut [u8], from: usize, s: &[u8]) {
 }
 
 // The first k bytes as a page.
-fn show_front(text: &[u8], k: usize, out: &mut [u8]) {
+fn show_front(to: Stdout, text: &[u8], k: usize, out: &mut [u8]) {
     if k <= text.len() {
-        show(&text[..k], out);
+        show(to, &text[..k], out);
     }
 }
 
 // One node and its width, said over and over: as long as a file may be, up to its last digit and newline, and a byte longer.
-fn run_long(text: &mut [u8], out: &mut [u8]) {
+fn run_long(to: Stdout, text: &mut [u8], out: &mut [u8]) {
     let head =
         b"nodes=000000000000000000001\nparent=00000000\nknown=none,none\navail=max\nlines=0,0,0\nnode=00000001,00000000,05555000,00000055\n";
     repeat(text, 0, head);
     repeat(text, 123, b"num=0,00000000\n");
-    show_front(text, 262141, out);
-    show_front(text, 262142, out);
-    show_front(text, 262143, out);
-    show_front(text, 262144, out);
+    show_front(to, text, 262141, out);
+    show_front(to, text, 262142, out);
+    show_front(to, text, 262143, out);
+    show_front(to, text, 262144, out);
 }
 
-fn main() {
+fn main(rt: HostRuntime) {
     let mut text = [0u8; 524288];
     let mut out = [0u8; 131072];
-    let n = io::read_full(STDIN_FILENO, &mut text);
-    run(&text[..n], &mut out);
-    run_long(&mut text, &mut out);
+    let n = console::read_full(&mut rt.stdin(), &mut text);
+    run(rt.stdout(), &text[..n], &mut out);
+    run_long(rt.stdout(), &mut text, &mut out);
 }

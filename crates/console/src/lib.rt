@@ -1,0 +1,91 @@
+// Standard input and output for the programs: bytes and numbers, with no memory but what the caller lends.
+#![tactic(auto)]
+
+ghost use Rattle.std.specs.Prelude.{◌≤◌, length, take, IsTrue, decimal};
+ghost use Rattle.std.specs.Io.KnownBytes.{Appends, Consumes};
+ghost use Rattle.console.specs.Digits.{eight_hex};
+
+use std::io::{Read, Write};
+
+// Writes all of `bytes`: false if a write fails, when some of them may have been written.
+pub fn write_all<W: Write>(to: &mut W, bytes: &[u8]) -> bool
+    ensures { IsTrue result → Appends (W.contents to.old) (W.contents to.new) bytes.now }
+{
+    to.write_all(bytes).is_ok()
+}
+
+// Reads until `room` is full, the input ends or a read fails: how many bytes now stand at its start.
+pub fn read_full<R: Read>(from: &mut R, room: &mut [u8]) -> usize
+    ensures within { result ≤ length room.new }
+    ensures bytes { Consumes (R.remaining from.old) (R.remaining from.new) (take result room.new) }
+{
+    let mut done = 0;
+    while done < room.len() {
+        match from.read(&mut room[done..]) {
+            Ok(0) => return done,
+            Ok(n) => done += n,
+            Err(_) => return done,
+        }
+    }
+    done
+}
+
+// Writes `n` in decimal: false if a write fails.
+pub fn print_decimal<W: Write>(to: &mut W, n: u64) -> bool
+    ensures { IsTrue result → Appends (W.contents to.old) (W.contents to.new) (decimal n) }
+{
+    write!(to, "{n}").is_ok()
+}
+
+// Writes `n` as eight hexadecimal digits: false if a write fails.
+pub fn print_hex<W: Write>(to: &mut W, n: u32) -> bool
+    ensures { IsTrue result → Appends (W.contents to.old) (W.contents to.new) (eight_hex n) }
+{
+    write!(to, "{n:08x}").is_ok()
+}
+
+#[cfg(test)]
+mod tests {
+    use super::*;
+    use std::io;
+
+    // Gives one byte a read, and fails at the fourth.
+    #[derive(Drop)]
+    struct Drips {
+        given: u8,
+    }
+
+    impl Read for Drips {
+        fn read(&mut self, buf: &mut [u8]) -> io::Result<usize> {
+            if self.given >= 3 {
+                return Err(io::Error::from(io::ErrorKind::Other));
+            }
+            if buf.is_empty() {
+                return Ok(0);
+            }
+            buf[0] = b'a' + self.given;
+            self.given += 1;
+            Ok(1)
+        }
+    }
+
+    #[test]
+    fn failed_read_keeps_what_came(rt: HostRuntime) {
+        let mut from = Drips { given: 0 };
+        let mut room = [0u8; 5];
+        let n = read_full(&mut from, &mut room);
+        assert_eq!(rt; n, 3);
+        assert!(rt; room == *b"abc\0\0");
+    }
+
+    #[test]
+    fn numbers_and_a_full_writer(rt: HostRuntime) {
+        let mut room = [0u8; 14];
+        let mut to = &mut room[..];
+        assert!(rt; print_decimal(&mut to, 4711));
+        assert!(rt; write_all(&mut to, b" "));
+        assert!(rt; print_hex(&mut to, 0xbeef));
+        assert!(rt; !write_all(&mut to, b"ab"));
+        assert!(rt; room == *b"4711 0000beefa");
+    }
+}
