@@ -27,7 +27,8 @@ use Rattle.steps.specs.declared.Cursor.{Cursor}
 use Rattle.steps.proofs.Clauses.{frame_at, style_t, lay_f_none, leaf_rows, block_rows, stack_of, shift_of}
 use Rattle.steps.proofs.Zeros.{no_row_lem}
 use Rattle.laws.specs.Trees.{AllT, AllF}
-use Rattle.sums.specs.Sums.{add_chain, lt_self}
+use Rattle.sums.specs.Sums.{lt_self}
+use Rattle.sums.proofs.Sums.{add_chain}
 use Rattle.sums.specs.Zeros.{below_edge}
 use Rattle.order.specs.Sets.{Up}
 use Rattle.order.specs.Steady.{Steady}
