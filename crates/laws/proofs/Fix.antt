@@ -41,7 +41,6 @@ pub keep_alike : (l : Full) (ks : Forest Full) (q : LayoutInput) (p : Point) (n 
 keep_alike l ks q p n e v = record {
   same_out = ap (λ (t : Tree Node). (keep t).out) (map_t_node again_n l ks) ∙ kept_out ∙ blind_t (node l ks) q zero_f;
   same_rows = λ y m. ap (λ (t : Tree Node). on_root (put_at y m) (keep t).rows) (map_t_node again_n l ks) ∙ kept-rows y m;
-
 }
   where
     own : l.both.old ≡ put_at p n (laid_row q (lay_t (map_t seen_n (node l ks)) q zero_f).out (old_words l))

@@ -106,7 +106,6 @@ unfolding AllT style_at
 pages_agree = (
   record { style = λ _. refl; kind = refl; position = refl },
   ((record { style = λ _. refl; kind = refl; position = refl }, ((record { style = λ e. false_true true e refl; kind = refl; position = refl }, tt), tt)), tt),
-
 )
 
 -- What is supposed is needed. Below a node that is laid out styles are read: without the marks the second half fails.
@@ -118,7 +117,6 @@ unfolding AllT style_at
 unkept_agree = (
   record { style = λ _. refl; kind = refl; position = refl },
   ((record { style = λ _. refl; kind = refl; position = refl }, ((record { style = λ e. false_true true e refl; kind = refl; position = refl }, tt), tt)), tt),
-
 )
 
 -- A change below a block that the list does not name is missed: without an honest list the first half fails.

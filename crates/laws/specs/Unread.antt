@@ -81,7 +81,6 @@ stay_same t = record {
   same_given =
       map_map_t given_in staying (map_t page1 t) ∙ map_map_t (λ (c : Cell). record { probe = probe_of c.old; anew = false }) page1 t
       ∙ sym (map_map_t given_in staying (map_t page2 t) ∙ map_map_t (λ (c : Cell). record { probe = probe_of c.old; anew = false }) page2 t);
-
 }
 
 -- a node that is not below a kept one: one cell
