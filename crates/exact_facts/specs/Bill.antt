@@ -25,7 +25,8 @@ use Rattle.integers.specs.Results.{candidate_numbers_z}
 use Rattle.integers.proofs.Computed.{wholes}
 use Rattle.profile.specs.Profile.{whole_sizes, whole_sides, plain_style, profile_style, of_profile, outside, else_at, profile_spot}
 use Rattle.exact.specs.Read.{style_z, input_z, page_z}
-use Rattle.exact.specs.OnTables.{rows_z, ExactReply, layout_is_exact}
+use Rattle.exact.specs.OnTables.{rows_z, ExactReply}
+use Rattle.exact.proofs.OnTables.{layout_is_exact}
 
 unfoldable pub bill_words : List ℕ
 bill_words =
