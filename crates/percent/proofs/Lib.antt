@@ -1,3 +1,0 @@
-pub mod NoWidth
-pub mod Before
-pub mod OnTables
