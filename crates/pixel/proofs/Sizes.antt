@@ -6,7 +6,7 @@ use Rattle.geometry.specs.Geometry.{zero_f}
 use Rattle.geometry.specs.Floats.{◌⊕◌}
 use Rattle.limits.specs.Limits.{finite}
 use Rattle.pixel.specs.Pixel.{whole_pixel}
-use Rattle.pixel.specs.Laws.{size_not_negative}
+use Rattle.pixel.proofs.Laws.{size_not_negative}
 use Rattle.sums.specs.Sums.{add_not_less}
 use Rattle.sums.specs.Numbers.{finite_number, lt_le}
 
