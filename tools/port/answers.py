@@ -101,6 +101,8 @@ class Fn:
 
     def path(self, chain, words):
         new = self.path_(chain, words)
+        if self.deep and new[0] == "pre":
+            new = ["requires"] + new[1:]
         if self.deep and new[0] == "requires":
             # in a cycle the measure's fact stood first
             if new[1:2] == ["0"]:
@@ -115,19 +117,24 @@ class Fn:
         k = 0
         while k < len(words) and words[k] == "before":
             k += 1
-        if k >= len(chain) or k >= len(words):
+        if k == len(words) and k < len(chain) and self.deep:
+            # a place by itself, for a lemma over places
+            return words
+        if k >= len(words):
             raise Left("a place by itself: c." + ".".join(words))
-        i, p = chain[k]
         step = words[k]
-        rest = words[k + 1 :]
-        if step in ("args", "requires", "ranges", "utf8", "well_formed", "type_inv"):
+        if k >= len(chain):
+            k = len(chain) - 1
+        i, p = chain[k]
+        rest = words[words.index(step) + 1 :]
+        if step in ("args", "requires", "pre", "ranges", "utf8", "well_formed", "type_inv"):
             return [step] + rest
         old, new = p[2]
         if plain(step) != plain(old):
             if step == "given" or p[1] is None:
                 return [step] + rest
             # (a name that stands in both forms)
-            alike = lambda it: re.sub(r"(?i)is[-_](?=is)|[-_]|_contract$", "", it).lower()
+            alike = lambda it: re.sub(r"(?i)is[-_](?=is)|_contract$|_lem$|[-_]|_lem$", "", it).lower()
             if alike(step) != alike(old):
                 # places have come or gone between: by its name
                 found = [j for j, (_, q) in enumerate(chain) if alike(q[2][0]) == alike(step)]
@@ -147,19 +154,64 @@ class Fn:
                     return [arm[0], field] + rest[len(of_path) :]
                 if of_step == old and not of_path and j == k:
                     own = [arm[0], field] + rest
+        # what a call left in its arguments went by place
+        params = self.of["params"].get(p[3]) if p[3] else None
+        if params and rest[:1] == ["new"] and rest[1:2] and rest[1] in ("0", "1"):
+            n = 1
+            while n < len(rest) and rest[n] == "1" and n <= len(params) - 1:
+                n += 1
+            at = n - 1
+            if n < len(rest) and rest[n] == "0":
+                n += 1
+            if at < len(params):
+                rest = ["new", params[at]] + rest[n:]
+                own = None
         return own or [new] + rest
 
 
-def turned(body, binder, fn, chain):
+def turned(body, binder, fn, chain, over={}, unfoldings=[]):
     # a name for a place is the place
     while True:
         m = re.search(r"\blet ([\w\-]+) = " + re.escape(binder) + r"((?:\.before)*) in\s*", body)
         if not m:
             break
         body = body[: m.start()] + re.sub(r"(?<![\w'.\-])" + m[1] + r"(?![\w'\-])", binder + m[2], body[m.end() :])
+    # a lemma over places stands in front, about the state itself
+    def uses(name, text, b):
+        return re.compile(r"(?<![\w'.\-])" + re.escape(name) + r"(?![\w'\-])(?:\s+t(?![\w'\-]))?\s+(?:\(" + re.escape(b) + r"(?:\.before)*\)|" + re.escape(b) + r"(?:\.before)*(?![\w'\-.]))")
+
+    needed, front = [], {}
+    todo = [(body, binder)]
+    while todo:
+        text, b = todo.pop()
+        for name in over:
+            if name not in needed and uses(name, text, b).search(text):
+                needed.append(name)
+                at, tb, typ, cb, params, eq, unf = over[name]
+                j = next((k for k, (_, q) in enumerate(chain) if q[0] == at), None)
+                if j is None:
+                    raise Left(f"{name} is not on the way")
+                here = binder + ".before" * j
+                put = lambda text, b: re.sub(r"(?<![\w'.\-])" + re.escape(b) + r"(?![\w'\-])", here, text)
+                typ2, eq2 = put(typ, tb), put(eq, cb)
+                typ2 = re.sub(r"^→\s*", "", typ2)
+                front[name] = (typ2, ("λ " + " ".join(params) + ". " if params else "") + eq2, unf)
+                todo += [(typ2, binder), (eq2, binder)]
+    lets = ""
+    for name in over:
+        if name in needed:
+            typ, eq, unf = front[name]
+            lets += f"let {name} : {typ} = {' '.join(eq.split())} in "
+            unfoldings.extend(unf)
+    body = lets + body
+    for name in needed:
+        body = uses(name, body, binder).sub(name, body)
+    for name in needed:
+        # (lets that this one brought in)
+        body = re.sub(r"let " + re.escape(name) + r" = " + re.escape(name) + r" in ", "", body)
     out = []
     last = 0
-    for m in re.finditer(r"(?<![\w'.\-])" + re.escape(binder) + r"((?:\." + W + r")*)(?![\w'\-])", body):
+    for m in re.finditer(r"(?<![\w'.\-\x01])" + re.escape(binder) + r"((?:\." + W + r")*)(?![\w'\-])", body):
         words = m[1].split(".")[1:] if m[1] else []
         if not words:
             raise Left("the whole state")
@@ -169,7 +221,7 @@ def turned(body, binder, fn, chain):
         last = m.end()
     out.append(body[last:])
     # a test of `!b` tells b itself now
-    text = "".join(out)
+    text = "".join(out).replace("\x01", "c")
     return re.sub(r"\(?not-(?:true|false) _ (c\.(?:if|loop)-[\w.-]*not-[\w-]+\.(?:true|false))(\)?)", lambda m: m[1] if m[0].startswith("(") and m[2] else m[1] + m[2] if not m[0].startswith("(") else "(" + m[1] + m[2], text)
 
 
@@ -188,7 +240,7 @@ def convert(text, path, crate, of, keep_trivial=False):
                 fns[it[2]] = Fn(of[name], True)
     fn = Fn(of) if not cycle else None
     module = f"Rattle.{crate}.proofs." + path.replace("/", ".")
-    answers, helpers, invs, uses, named = [], [], [], [], []
+    answers, helpers, invs, uses, named, over, placed = [], [], [], [], [], {}, []
     for com, lines in blocks(text):
         if lines[0].startswith("use "):
             joined = "\n".join(l for l in lines if l.strip())
@@ -208,7 +260,9 @@ def convert(text, path, crate, of, keep_trivial=False):
                 deep = True
             elif re.search(r"\bIn \d|Measures|\.Claims\b", sig):
                 if "Measures" in sig:
-                    invs.append((com, name, None, eqs))
+                    kinds = re.search(r"Measures \d+ (\S+)\.ps", sig)[1]
+                    f = re.search(r"use \S+?\.(\w+)\.Kinds as " + re.escape(kinds), text)[1]
+                    invs.append((com, f, None, eqs))
                 continue
             else:
                 m = None
@@ -219,7 +273,30 @@ def convert(text, path, crate, of, keep_trivial=False):
             continue
         if not m:
             if re.search(r"\b(tie|lts|reads)\.|-lts\.", sig + eqs):
-                raise Left("a helper over places: " + name)
+                flat = " ".join(sig.split())
+                ph = None
+                h0 = re.match(r"^((?:abbrev |pub )*)\S+ : ((?:\(t : ℕ\) )?)\((\w+) : (\S+?)\.(" + W + r")", flat)
+                if h0:
+                    depth, e = 1, h0.end()
+                    while depth:
+                        depth += {"(": 1, ")": -1}.get(flat[e], 0)
+                        e += 1
+                    ph = [h0[0], h0[1], h0[2], h0[3], h0[4], h0[5], flat[e:]]
+                pe = re.match(r"^\S+((?:\s+[^\s=]+)*)\s+=\s*", eqs)
+                of_fn = fns.get(ph[4]) if ph and cycle else fn
+                if not ph or not pe or not of_fn:
+                    raise Left("a helper over places: " + name)
+                at = next((q for q in of_fn.places if plain(q) == plain(ph[5])), None)
+                if at is None:
+                    raise Left("a helper over places: " + name + " at " + ph[5])
+                chain = of_fn.chain(at)
+                new_place = of_fn.of["places_by_name"][of_fn.places[at][0]]
+                hb = pe[1].split()
+                k = 1 if ph[2] else 0
+                cb = hb[k]
+                more_params = hb[k + 1 :]
+                over[name] = (at, ph[3], ph[6].strip(), cb, more_params, eqs[pe.end() :], unf)
+                continue
             named.append((name, "\n".join(c for c in com if c.strip()) + ("\n" if com else "") + "\n".join([sig] + unf + ([eqs] if eqs else []))))
             helpers.append(named[-1][1])
             continue
@@ -228,6 +305,7 @@ def convert(text, path, crate, of, keep_trivial=False):
             print(f"dropped: {path}: no goal {m[2]}")
             continue
         new, at = goal
+        new = fn.of["stem"] + new
         h = re.match(r"^\S+((?:\s+[^\s=]+)*)\s+=\s*", eqs)
         if not h:
             raise Left("equations of " + name)
@@ -240,7 +318,11 @@ def convert(text, path, crate, of, keep_trivial=False):
             raise Left("no binder of " + name)
         more = [b for b in binders[1:] if not b.startswith("κ")]
         chain = fn.chain(at)
-        body = turned(body, binders[0], fn, chain)
+        more_unf = []
+        body = turned(body, binders[0], fn, chain, over, more_unf)
+        if more_unf:
+            words = sorted({w for line in unf + more_unf for w in line.replace("unfolding", "").split()})
+            unf = ["unfolding " + " ".join(words)]
         if body.strip() in TRIVIAL and not unf and not keep_trivial:
             continue
         if body.strip() in TRIVIAL and "unfolding" not in "\n".join(unf):
@@ -260,22 +342,35 @@ def convert(text, path, crate, of, keep_trivial=False):
                     todo.append(t)
         moved = [re.sub(r"^((?:--.*\n)*)(?:(abbrev|unfoldable) )?(?:pub )?", lambda m: m[1] + (m[2] + " " if m[2] else "") + "pub ", t) for n, t in named if n in cited]
         helpers = [t for n, t in named if n not in cited]
-        inv_text = invariants(fns, module, uses, invs, moved)
+        inv_text = invariants(fns, module, uses, invs, moved, crate)
         if cited:
             uses.append(f"use {module}.Invariants.{{{', '.join(n for n, _ in named if n in cited)}}}")
     ans_text = None
     if answers:
-        ans_text = "\n".join(uses + [f"use {module}.Goals as goal"]) + "\n\n" + "\n\n".join(helpers + answers) + "\n"
+        ans_text = "\n".join(uses + [f"use {module}.Goals as goal"]) + "\n\n" + "\n\n".join(helpers + placed + answers) + "\n"
     return ans_text, inv_text
 
 
-def invariants(fns, module, uses, invs, helpers=()):
+def params_of(crate, name):
+    """The parameters of a function of the crate, in order."""
+    for folder, _, files in os.walk(f"crates/{crate}/src"):
+        for f in files:
+            it = re.search(r"(?s)\bfn " + name + r"\s*\((.*?)\)\s*(?:->|requires|ensures|\{)", open(f"{folder}/{f}", encoding="utf-8").read())
+            if it:
+                return re.findall(r"(?:^|[(,])\s*(?:mut )?(\w+)\s*:", it[1])
+    raise Left("no function " + name)
+
+
+def invariants(fns, module, uses, invs, helpers=(), crate=""):
     out = []
     for com, name, word, eqs in invs:
         if word is None:
             note = "\n".join(c for c in com if c.strip())
-            of = name.replace("μ", "").strip("-_")
-            out.append((note + "\n" if note else "") + f"abbrev pub decreases-{of.replace('-', '_')} : goal.decreases-{of.replace('-', '_')}\ndecreases-{of.replace('-', '_')} l = {eqs.split('=', 1)[1].strip()}")
+            params = params_of(crate, name)
+            it = eqs.split("=", 1)[1].strip()
+            binder = eqs.split("=", 1)[0].split()[-1]
+            it = re.sub(r"(?<![\w'.\-])" + re.escape(binder) + r"((?:\.1)*)(\.0)?(?=\.now|(?![\w.]))", lambda m: "l." + params[m[1].count("1")], it)
+            out.append((note + "\n" if note else "") + f"abbrev pub decreases-{name} : goal.decreases-{name}\ndecreases-{name} l = {it}")
             continue
         fn, word = word
         loops, changed = fn.of["loops"], fn.of["changed"]
@@ -284,6 +379,7 @@ def invariants(fns, module, uses, invs, helpers=()):
         if k is None:
             raise Left("no loop " + word)
         (old, new), names = loops[k][0], loops[k][1]
+        new = fn.of["stem"] + new
         h = re.match(r"^\S+((?:\s+[^\s=]+)*)\s+=\s*", eqs)
         if not h:
             raise Left("equations of " + name)

@@ -24,4 +24,4 @@ put_decimal-a-requires t c = (omega (arith, c.decreases), tt)
 
 pub returns : goal.returns
 returns t c = let a = c.args in
-    rw (more_digits a.places a.n (omega arith) c.if-n-lt10.false, ← c.glyph-2.ensures) (then (decimal (a.places - 1) (a.n / 10)) (c.glyph-2.result ∷ []) (pen a.out.now a.at) (pen c.put_decimal-a.new.out c.put_decimal-a.result) (pen c.put-2.new.0 c.put-2.result) c.put_decimal-a.ensures c.put-2.ensures)
+    rw (more_digits a.places a.n (omega arith) c.if-n-lt10.false, ← c.glyph-2.ensures) (then (decimal (a.places - 1) (a.n / 10)) (c.glyph-2.result ∷ []) (pen a.out.now a.at) (pen c.put_decimal-a.new.out c.put_decimal-a.result) (pen c.put-2.new.out c.put-2.result) c.put_decimal-a.ensures c.put-2.ensures)

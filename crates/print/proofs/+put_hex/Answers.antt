@@ -20,4 +20,4 @@ put_hex-a-requires t c = (omega (arith, c.decreases), tt)
 
 pub returns : goal.returns
 returns t c = let a = c.args in
-    rw (more_hex a.places a.w (omega arith), ← c.glyph.ensures) (then (hex_text (a.places - 1) (a.w / 16)) (c.glyph.result ∷ []) (pen a.out.now a.at) (pen c.put_hex-a.new.out c.put_hex-a.result) (pen c.put.new.0 c.put.result) c.put_hex-a.ensures c.put.ensures)
+    rw (more_hex a.places a.w (omega arith), ← c.glyph.ensures) (then (hex_text (a.places - 1) (a.w / 16)) (c.glyph.result ∷ []) (pen a.out.now a.at) (pen c.put_hex-a.new.out c.put_hex-a.result) (pen c.put.new.out c.put.result) c.put_hex-a.ensures c.put.ensures)

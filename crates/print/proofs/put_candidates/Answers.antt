@@ -19,7 +19,7 @@ loop-i-init c = let a = c.args in (search rules, refl, each_none (λ (i : ℕ). 
 pub loop-i-preserved : goal.loop-i-preserved
 loop-i-preserved c = let l = c.loop-i in
     let a = c.args in
-    (search rules, search rules, each_step (λ (i : ℕ). candidate_line (candidate_at a.pairs.now a.triples.now i)) l.i (pen a.out.now a.at) (pen l.out l.a) (pen c.put_candidate-a.new.0 c.put_candidate-a.result) l.invariant.2 c.put_candidate-a.ensures)
+    (search rules, search rules, each_step (λ (i : ℕ). candidate_line (candidate_at a.pairs.now a.triples.now i)) l.i (pen a.out.now a.at) (pen l.out l.a) (pen c.put_candidate-a.new.out c.put_candidate-a.result) l.invariant.2 c.put_candidate-a.ensures)
 
 pub returns : goal.returns
 returns c = let l = c.loop-i in

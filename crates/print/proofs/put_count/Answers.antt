@@ -16,4 +16,4 @@ use Rattle.print.proofs.put_count.Goals as goal
 
 pub returns : goal.returns
 unfolding count_text
-returns c = let a = c.args in then (44 ∷ []) (decimal 20 a.n) (pen a.out.now a.at) (pen c.put-a.new.out c.put-a.result) (pen c.put_decimal.new.0 c.put_decimal.result) c.put-a.ensures c.put_decimal.ensures
+returns c = let a = c.args in then (44 ∷ []) (decimal 20 a.n) (pen a.out.now a.at) (pen c.put-a.new.out c.put-a.result) (pen c.put_decimal.new.out c.put_decimal.result) c.put-a.ensures c.put_decimal.ensures

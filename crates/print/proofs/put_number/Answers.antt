@@ -18,4 +18,4 @@ use Rattle.print.proofs.put_number.Goals as goal
 
 pub returns : goal.returns
 unfolding number_text
-returns c = let a = c.args in rw (← c.bits_of.ensures) (then (44 ∷ []) (hex_text 8 c.bits_of.result) (pen a.out.now a.at) (pen c.put-a.new.out c.put-a.result) (pen c.put_hex.new.0 c.put_hex.result) c.put-a.ensures c.put_hex.ensures)
+returns c = let a = c.args in rw (← c.bits_of.ensures) (then (44 ∷ []) (hex_text 8 c.bits_of.result) (pen a.out.now a.at) (pen c.put-a.new.out c.put-a.result) (pen c.put_hex.new.out c.put_hex.result) c.put-a.ensures c.put_hex.ensures)
