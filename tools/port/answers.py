@@ -156,7 +156,7 @@ class Fn:
                     own = [arm[0], field] + rest
         # what a call left in its arguments went by place
         params = self.of["params"].get(p[3]) if p[3] else None
-        if params and rest[:1] == ["new"] and rest[1:2] and rest[1] in ("0", "1"):
+        if params and rest[:1] in (["new"], ["auto"]) and rest[1:2] and rest[1] in ("0", "1"):
             n = 1
             while n < len(rest) and rest[n] == "1" and n <= len(params) - 1:
                 n += 1
@@ -164,18 +164,23 @@ class Fn:
             if n < len(rest) and rest[n] == "0":
                 n += 1
             if at < len(params):
-                rest = ["new", params[at]] + rest[n:]
+                rest = [rest[0], params[at]] + rest[n:]
                 own = None
         return own or [new] + rest
 
 
-def turned(body, binder, fn, chain, over={}, unfoldings=[]):
-    # a name for a place is the place
+def named_places(body, binder):
+    """A name for a place is the place."""
     while True:
         m = re.search(r"\blet ([\w\-]+) = " + re.escape(binder) + r"((?:\.before)*) in\s*", body)
         if not m:
             break
         body = body[: m.start()] + re.sub(r"(?<![\w'.\-])" + m[1] + r"(?![\w'\-])", binder + m[2], body[m.end() :])
+    return body
+
+
+def turned(body, binder, fn, chain, over={}, unfoldings=[]):
+    body = named_places(body, binder)
     # a lemma over places stands in front, about the state itself
     def uses(name, text, b):
         return re.compile(r"(?<![\w'.\-])" + re.escape(name) + r"(?![\w'\-])(?:\s+t(?![\w'\-]))?\s+(?:\(" + re.escape(b) + r"(?:\.before)*\)|" + re.escape(b) + r"(?:\.before)*(?![\w'\-.]))")
@@ -193,7 +198,7 @@ def turned(body, binder, fn, chain, over={}, unfoldings=[]):
                     raise Left(f"{name} is not on the way")
                 here = binder + ".before" * j
                 put = lambda text, b: re.sub(r"(?<![\w'.\-])" + re.escape(b) + r"(?![\w'\-])", here, text)
-                typ2, eq2 = put(typ, tb), put(eq, cb)
+                typ2, eq2 = put(typ, tb), named_places(put(eq, cb), binder)
                 typ2 = re.sub(r"^→\s*", "", typ2)
                 front[name] = (typ2, ("λ " + " ".join(params) + ". " if params else "") + eq2, unf)
                 todo += [(typ2, binder), (eq2, binder)]

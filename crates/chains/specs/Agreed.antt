@@ -13,7 +13,7 @@ use Rattle.steps.proofs.Computed.{calls}
 use Rattle.laws.specs.Trees.{false_true}
 use Rattle.laws.specs.Below.{under, below_t, below_kept}
 use Rattle.laws.specs.Tables.{Checks, AgreeAt, below_at}
-use Rattle.laws.specs.Demand3.{relayouts_agree}
+use Rattle.laws.proofs.Demand3.{relayouts_agree}
 use Rattle.laws.specs.Examples.{free, probe_words, probe_was}
 use Rattle.chains.specs.Pages.{low, tall, leaf_high, no_rows, no_marks, changed, four_tall, same_shape}
 use Rattle.chains.specs.Chain.{first, box}

@@ -12,7 +12,7 @@ use Rattle.steps.proofs.Computed.{calls}
 use Rattle.laws.specs.Trees.{false_true}
 use Rattle.laws.specs.Below.{under, below_t, below_kept}
 use Rattle.laws.specs.Tables.{Checks, Named, Calls, laid_out, laid_again}
-use Rattle.laws.specs.Demand3.{relayout_is_layout}
+use Rattle.laws.proofs.Demand3.{relayout_is_layout}
 use Rattle.laws.specs.Examples.{free, probe_words, probe_was}
 use Rattle.chains.specs.Pages.{low, tall, taller, no_rows, no_marks, changed, four_low, four_tall, same_shape}
 

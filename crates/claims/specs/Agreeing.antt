@@ -25,7 +25,7 @@ use Rattle.tables.proofs.Passing.{then_pass_1, then_pass_2}
 use Rattle.steps.specs.declared.Tested.TheVariants.{Pass}
 use Rattle.laws.specs.Tables.{SameShape, Sound, AgreeAt, below_at}
 use Rattle.laws.specs.Answers.{relayout_layout}
-use Rattle.laws.specs.Blind.{tables-same}
+use Rattle.laws.proofs.Blind.{tables-same}
 use Rattle.laws.specs.Parsed.{on_label, parse-map, parse-same}
 use Rattle.asked.specs.Halves.{one_word}
 use Rattle.face.specs.Answered.{Answered}

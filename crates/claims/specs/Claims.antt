@@ -6,7 +6,7 @@ use Rattle.steps.specs.Results.{layout_result, relayout_result}
 use Rattle.steps.specs.declared.LayoutInput.{LayoutInput}
 use Rattle.steps.specs.declared.Tested.TheVariants.{Pass}
 use Rattle.laws.specs.Tables.{SameShape, Named, Calls, AgreeAt, below_at}
-use Rattle.laws.specs.Demand3 as demand3
+use Rattle.laws.proofs.Demand3 as demand3
 use Rattle.claims.specs.Discharged.{checks}
 
 -- Rows that calls left, the same shape, every changed node named: a relayout that passes the tests has the whole result of a layout.

@@ -19,7 +19,7 @@ use Rattle.steps.specs.declared.Tested.{Tested}
 use Rattle.steps.specs.declared.Tested.TheVariants.{Pass, Refuse}
 use Rattle.laws.specs.Tables.{SameShape, Named, Calls, laid_out, laid_again}
 use Rattle.laws.specs.Answers.{relayout_layout}
-use Rattle.laws.specs.Public.{tables-fresh, calls-fresh}
+use Rattle.laws.proofs.Public.{tables-fresh, calls-fresh}
 use Rattle.layout.specs.Public.{Replied}
 use Rattle.asked.specs.Halves.{Halves, one_word}
 use Rattle.face.specs.Answered.{Answered}

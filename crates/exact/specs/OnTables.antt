@@ -25,7 +25,7 @@ use Rattle.tables.specs.TreeCheck.{GoodTable}
 use Rattle.tables.proofs.Passing.{sized, page_passes, then_pass_1, then_pass_2, if_pass}
 use Rattle.tables.proofs.GoodPage.{good_page}
 use Rattle.laws.specs.Tables.{SameShape, Named, Checks, Calls}
-use Rattle.laws.specs.Demand3.{relayout_is_layout}
+use Rattle.laws.proofs.Demand3.{relayout_is_layout}
 use Rattle.laws.specs.Answers.{relayout_layout}
 use Rattle.whole.specs.Whole.{Whole}
 use Rattle.integers.specs.Numbers.{SizeZ}

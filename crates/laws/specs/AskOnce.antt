@@ -15,22 +15,19 @@ use Rattle.tree.specs.Tree.{Tree, Forest, node, map_t, map_f}
 use Rattle.tree.proofs.Laws.{map_t_node}
 use Rattle.steps.specs.Sizing.{sizing_of, step_a, known_axis, step_b, filled, step_d, known_of}
 use Rattle.steps.specs.Edges.{step_i, frame_of}
-use Rattle.steps.specs.Stack.{start_of}
 use Rattle.steps.specs.Height.{step_k, step_l}
 use Rattle.steps.specs.Through.{output_of, finished}
 use Rattle.steps.specs.Row.{Row, ProbeWords, laid_row}
 use Rattle.steps.specs.Page.{Site, Cell, Node, blank, cleared}
-use Rattle.steps.specs.Probe.{Widest, Passed, pass_by, width_pass}
-use Rattle.steps.specs.Kept.{Laid}
-use Rattle.steps.specs.Layout.{Stacked, lay_t, lay_f, relaid, fresh}
-use Rattle.steps.specs.SizeQuestion.{axes, width_known, step_c, step_g, size_below, size_of}
+use Rattle.steps.specs.Probe.{Widest, pass_by, width_pass}
+use Rattle.steps.specs.Layout.{relaid, fresh}
+use Rattle.steps.specs.SizeQuestion.{axes, width_known, step_c, step_g, size_below}
 use Rattle.steps.specs.declared.LayoutInput.{LayoutInput}
 use Rattle.steps.specs.declared.LayoutOutput.{LayoutOutput}
 use Rattle.steps.specs.declared.RequestedAxis.TheVariants.{Both}
 use Rattle.steps.specs.declared.Sizing.{Sizing}
-use Rattle.steps.specs.declared.Frame.{Frame}
 use Rattle.steps.specs.declared.Cursor.{Cursor}
-use Rattle.steps.proofs.Clauses.{block_out, block_rows}
+use Rattle.steps.proofs.Clauses.{block_rows}
 
 -- ---- B floors what it gives, and a second floor does nothing
 itself : (p : Float) → larger p p ≡ p
@@ -65,11 +62,11 @@ unfolding step_b known_axis
 known_floored z k h e = floored_once _ (down z.both) h e
 
 -- ---- what a layout gives the root: content is what K finds
-abbrev laid_size : Sizing → OptionSize → Float → Float → Size
+abbrev pub laid_size : Sizing → OptionSize → Float → Float → Size
 laid_size z k found content = axes (unwrap_or k.width found) (larger (unwrap_or k.height content) (down z.both))
 
 -- D, F and G agree with it
-rest_is : (z : Sizing) (k : OptionSize) (found content : Float) → size_below Both z k found (laid_size z k found content) ≡ laid_size z k found content
+pub rest_is : (z : Sizing) (k : OptionSize) (found content : Float) → size_below Both z k found (laid_size z k found content) ≡ laid_size z k found content
 unfolding size_below step_g unwrap_or
 rest_is z k found content = go k.height refl
   where
@@ -78,56 +75,40 @@ rest_is z k found content = go k.height refl
     go (Some h) e = rw e
 
 -- a width or height that B gives is not filled by D
-stays : (s : Style) (z : Sizing) (b : OptionSize) (w : Float) → b.width ≡ Some w → (step_d s z b).width ≡ Some w
+pub stays : (s : Style) (z : Sizing) (b : OptionSize) (w : Float) → b.width ≡ Some w → (step_d s z b).width ≡ Some w
 unfolding step_d filled or_else
 stays s z b w e = rw e
 
-stays_tall : (s : Style) (z : Sizing) (b : OptionSize) (h : Float) → b.height ≡ Some h → (step_d s z b).height ≡ Some h
+pub stays_tall : (s : Style) (z : Sizing) (b : OptionSize) (h : Float) → b.height ≡ Some h → (step_d s z b).height ≡ Some h
 unfolding step_d filled or_else
 stays_tall s z b h e = rw e
 
-open_width : (o : OptionF32) (r : Size) → step_c Both None o r ≡ r
+pub open_width : (o : OptionF32) (r : Size) → step_c Both None o r ≡ r
 unfolding step_c
 open_width o r = refl
 
-open_height : (w : Float) (r : Size) → step_c Both (Some w) None r ≡ r
+pub open_height : (w : Float) (r : Size) → step_c Both (Some w) None r ≡ r
 unfolding step_c width_known
 open_height w r = refl
 
-both_axes : (w h : Float) (r : Size) → step_c Both (Some w) (Some h) r ≡ axes w h
+pub both_axes : (w h : Float) (r : Size) → step_c Both (Some w) (Some h) r ≡ axes w h
 unfolding step_c width_known
 both_axes w h r = refl
 
-known_both : (z : Sizing) (k : OptionSize) (w h found content : Float) → (step_b z k).height ≡ Some h → axes w h ≡ axes (unwrap_or (Some w) found) (larger (unwrap_or (Some h) content) (down z.both))
+pub known_both : (z : Sizing) (k : OptionSize) (w h found content : Float) → (step_b z k).height ≡ Some h → axes w h ≡ axes (unwrap_or (Some w) found) (larger (unwrap_or (Some h) content) (down z.both))
 unfolding unwrap_or
 known_both z k w h found content e = ap (axes w) (sym (known_floored z k h e))
 
--- so does C
-module _ (s : Style) (z : Sizing) (k : OptionSize) (found content : Float) where
-  abbrev rest : Size
-  rest = size_below Both z (step_d s z (step_b z k)) found (laid_size z (step_d s z (step_b z k)) found content)
-
-  tall : (w : Float) → (step_b z k).width ≡ Some w → (o : OptionF32) → (step_b z k).height ≡ o → step_c Both (Some w) o rest ≡ laid_size z (step_d s z (step_b z k)) found content
-  tall w e None g = open_height w rest ∙ rest_is z (step_d s z (step_b z k)) found content
-  tall w e (Some h) g = both_axes w h rest ∙ rw (stays s z (step_b z k) w e, stays_tall s z (step_b z k) h g) (known_both z k w h found content g)
-
-  wide : (o : OptionF32) → (step_b z k).width ≡ o → step_c Both o (step_b z k).height rest ≡ laid_size z (step_d s z (step_b z k)) found content
-  wide None e = open_width (step_b z k).height rest ∙ rest_is z (step_d s z (step_b z k)) found content
-  wide (Some w) e = tall w e (step_b z k).height refl
-
-  asked_is : step_c Both (step_b z k).width (step_b z k).height rest ≡ laid_size z (step_d s z (step_b z k)) found content
-  asked_is = wide (step_b z k).width refl
-
 -- ---- a laid block has such a size
-record LaidSize (size : Size) (z : Sizing) (k : OptionSize) (found : Float) : Type 0 where
-  content : Float
-  is : size ≡ laid_size z k found content
+pub record LaidSize (size : Size) (z : Sizing) (k : OptionSize) (found : Float) : Type 0 where
+  pub content : Float
+  pub is : size ≡ laid_size z k found content
 
 plain_a : (s : Style) (q : LayoutInput) → q.basis ≡ None → sizing_of s q.parent q.basis ≡ step_a s q.parent
 unfolding step_a
 plain_a s q e = rw e
 
-frame_size : (s : Style) (q : LayoutInput) (found : Float) (c : Cursor) → q.basis ≡ None → LaidSize (finished s q (frame_of s q found) c).output.size (step_a s q.parent) (step_d s (step_a s q.parent) (step_b (step_a s q.parent) q.known)) found
+pub frame_size : (s : Style) (q : LayoutInput) (found : Float) (c : Cursor) → q.basis ≡ None → LaidSize (finished s q (frame_of s q found) c).output.size (step_a s q.parent) (step_d s (step_a s q.parent) (step_b (step_a s q.parent) q.known)) found
 unfolding finished output_of step_l frame_of step_i known_of axes
 frame_size s q found c e =
     let f = frame_of s q found in
@@ -137,45 +118,25 @@ frame_size s q found c e =
     }
 
 -- ---- the root of a fresh page keeps its style
-record RootIs (n : Node) (t : Tree Node) : Type 0 where
-  kids : Forest Node
-  is : t ≡ node n kids
+pub record RootIs (n : Node) (t : Tree Node) : Type 0 where
+  pub kids : Forest Node
+  pub is : t ≡ node n kids
 
 pass_by_lem : (l : Cell) (ks : Forest Cell) (k p : OptionF32) (r : Widest) → RootIs (cleared l) (pass_by l ks k p r).nodes
 unfolding pass_by
 pass_by_lem l ks (Some w) p r = record { kids = map_f cleared ks; is = refl }
 pass_by_lem l ks None p r = record { kids = r.nodes; is = refl }
 
-pass_root : (l : Cell) (ks : Forest Cell) (q : LayoutInput) → RootIs (cleared l) (width_pass (node l ks) q).nodes
+pub pass_root : (l : Cell) (ks : Forest Cell) (q : LayoutInput) → RootIs (cleared l) (width_pass (node l ks) q).nodes
 unfolding width_pass
 pass_root l ks q = pass_by_lem l ks _ _ _
 
-abbrev root_of : Site → Node
+abbrev pub root_of : Site → Node
 root_of l = cleared (blank l)
 
-kind_kept : (l : Site) → is_leaf (root_of l).site.style.kind ≡ is_leaf l.style.kind
+pub kind_kept : (l : Site) → is_leaf (root_of l).site.style.kind ≡ is_leaf l.style.kind
 unfolding cleared blank
 kind_kept l = refl
-
-block_size : (l : Site) (us : Forest Node) (q : LayoutInput) (found : Float) → is_leaf l.style.kind ≡ false → q.basis ≡ None
-    → LaidSize (lay_t (node (root_of l) us) q found).out.size (step_a l.style q.parent) (step_d l.style (step_a l.style q.parent) (step_b (step_a l.style q.parent) q.known)) found
-unfolding cleared blank
-block_size l us q found e n = rw (block_out (root_of l) us q found (kind_kept l ∙ e)) (frame_size l.style q found _ n)
-
-fresh_size : (l : Site) (ks : Forest Site) (q : LayoutInput) → is_leaf l.style.kind ≡ false → q.basis ≡ None
-    → LaidSize (fresh (node l ks) q).out.size (step_a l.style q.parent) (step_d l.style (step_a l.style q.parent) (step_b (step_a l.style q.parent) q.known)) (width_pass (map_t blank (node l ks)) q).found
-unfolding fresh relaid
-fresh_size l ks q e n =
-    let m : map_t blank (node l ks) ≡ node (blank l) (map_f blank ks) = map_t_node blank l ks in
-    let r = pass_root (blank l) (map_f blank ks) q in
-    rw (m, r.is) (block_size l r.kids q (width_pass (node (blank l) (map_f blank ks)) q).found e n)
-
--- ---- The both-axes size question gives the size that a layout gives the root. The root of a page that is accepted is no leaf, and a caller's question has no height basis.
-pub size_is_laid : (l : Site) (ks : Forest Site) (q : LayoutInput) → is_leaf l.style.kind ≡ false → q.basis ≡ None → size_of (node l ks) q Both ≡ (fresh (node l ks) q).out.size
-unfolding size_of
-size_is_laid l ks q e n =
-    let h = fresh_size l ks q e n in
-    rw h.is (asked_is l.style (step_a l.style q.parent) q.known (width_pass (map_t blank (node l ks)) q).found h.content)
 
 -- ---- the root's row notes that size
 pub record RootLaid (t : Tree Row) (q : LayoutInput) (o : LayoutOutput) : Type 0 where

@@ -1,37 +1,29 @@
 -- It learns nothing, carried to tables.
-use Rattle.std.specs.Prelude.{◌≡◌, refl, Bool, true, ℕ, ◌+◌, ◌<◌, Float}
+use Rattle.std.specs.Prelude.{◌≡◌, refl, Bool, true, ℕ, Float}
 use Rattle.std.proofs.Math.Path.{sym, ap}
-use Rattle.std.proofs.Common.{◌∙◌, arith}
+use Rattle.std.proofs.Common.{◌∙◌}
 use Rattle.std.proofs.Math.Bool.{false}
-use mathlib.Core.List.{List, []}
+use mathlib.Core.List.{List}
 use Rattle.geometry.specs.Geometry.{zero_f}
 use Rattle.style.specs.Codes.{code_at, kind_of, position_of}
 use Rattle.style.specs.Style.{word_at, style_at}
 use Rattle.tree.specs.Tree.{Tree, Forest, node, none, more, map_t, map_f, on_root}
-use Rattle.tree.specs.Table.{Entry, parse_t}
 use Rattle.tree.proofs.Laws.{map_f_none, map_f_more, map_map_t, map_map_f}
 use Rattle.style.specs.Flow.{is_leaf, flow_of}
 use Rattle.steps.specs.Stack.{question_to}
-use Rattle.steps.specs.Row.{row_at}
-use Rattle.steps.specs.Page.{Cell, Node, named, site_at, cell_at, nodes_in, page_of, cells_of}
+use Rattle.steps.specs.Page.{Cell, Node}
 use Rattle.steps.specs.Probe.{width_pass}
 use Rattle.steps.specs.Kept.{kept}
-use Rattle.steps.specs.Layout.{relaid}
 use Rattle.style.specs.declared.Flow.{Flow}
 use Rattle.style.specs.declared.Flow.TheVariants.{Gone, Out, In}
 use Rattle.steps.specs.declared.LayoutInput.{LayoutInput}
 use Rattle.steps.specs.declared.Frame.{Frame}
 use Rattle.steps.proofs.Shape.{mute}
 use Rattle.steps.proofs.Clauses.{style_t}
-use Rattle.laws.specs.Trees.{AllT, top_t, kids_t}
-use Rattle.laws.specs.Below.{Two, page1, page2, below_of, Agree, under, below_t, below_f, below_kept}
+use Rattle.laws.specs.Trees.{top_t, kids_t}
+use Rattle.laws.specs.Below.{under, below_t, below_f, below_kept}
 use Rattle.laws.specs.Marks.{marks_of, marks_in, below_none, below_more, below_top, below_leaf, below_block, marks_at, marks_kept, marks_laid}
-use Rattle.laws.specs.Learns.{learns_nothing}
-use Rattle.laws.specs.Parsed.{on_label, parse-map, parse-same, all_parse}
 use Rattle.laws.specs.Shape.{pass_shape}
-use Rattle.laws.specs.Entries.{labels-tree}
-use Rattle.laws.specs.Tables.{SameShape, Sound, AgreeAt, below_at}
-use Rattle.laws.specs.Styles.{same_style}
 
 -- there is a mark for every node
 under_shape : {A : Type 0} (t : Tree A) → map_t mute (under t) ≡ map_t mute t
@@ -69,65 +61,15 @@ mutual
   shape_f none f = ap (map_f mute) (below_none f) ∙ map_f_none mute ∙ sym (map_f_none mute)
   shape_f (more t ts) f = ap (map_f mute) (below_more t ts f) ∙ rw (map_f_more, map_f_more, marks_shape t f (λ q. shape_t t q zero_f), shape_f ts f)
 
-below_shape : (t : Tree Cell) (q : LayoutInput) → map_t mute (below_kept t q) ≡ map_t mute t
+pub below_shape : (t : Tree Cell) (q : LayoutInput) → map_t mute (below_kept t q) ≡ map_t mute t
 unfolding below_kept
 below_shape t q = shape_t (width_pass t q).nodes q (width_pass t q).found ∙ pass_shape t q
 
 -- kind and position as the words have them
-same_kind : (ws : List ℕ) (xs : List Float) (ws' : List ℕ) (xs' : List Float) (i j : ℕ) → code_at (word_at ws i 1) 0 ≡ code_at (word_at ws' i 1) 0 → (style_at ws i xs j).kind ≡ (style_at ws' i xs' j).kind
+pub same_kind : (ws : List ℕ) (xs : List Float) (ws' : List ℕ) (xs' : List Float) (i j : ℕ) → code_at (word_at ws i 1) 0 ≡ code_at (word_at ws' i 1) 0 → (style_at ws i xs j).kind ≡ (style_at ws' i xs' j).kind
 unfolding style_at
 same_kind ws xs ws' xs' i j e = ap kind_of e
 
-same_position : (ws : List ℕ) (xs : List Float) (ws' : List ℕ) (xs' : List Float) (i j : ℕ) → code_at (word_at ws i 1) 2 ≡ code_at (word_at ws' i 1) 2 → (style_at ws i xs j).position ≡ (style_at ws' i xs' j).position
+pub same_position : (ws : List ℕ) (xs : List Float) (ws' : List ℕ) (xs' : List Float) (i j : ℕ) → code_at (word_at ws i 1) 2 ≡ code_at (word_at ws' i 1) 2 → (style_at ws i xs j).position ≡ (style_at ws' i xs' j).position
 unfolding style_at
 same_position ws xs ws' xs' i j e = ap position_of e
-
-module _ (ws : List ℕ) (xs : List Float) (ws' : List ℕ) (xs' : List Float) (rs : List Float) (ms es : List ℕ) (q : LayoutInput) where
-  abbrev below : ℕ → Bool
-  below i = below_at ws xs rs ms es q i
-
-  -- node i of both pages
-  abbrev two_at : ℕ → Entry Two
-  two_at i = record {
-    size = word_at ws i 0;
-    label = record { node = 0 + i; one = style_at ws i xs (0 + i); two = style_at ws' i xs' (0 + i); old = row_at rs ms i; edit = named es (0 + i); below = below i };
-  }
-
-  abbrev two_tree : Tree Two
-  two_tree = parse_t two_at (nodes_in ws)
-
-  one-view : map_t page1 two_tree ≡ cells_of ws xs rs ms es
-  unfolding cells_of cell_at site_at
-  one-view = parse-map page1 two_at (nodes_in ws)
-
-  site-shape : map_t mute (cells_of ws xs rs ms es) ≡ map_t mute (page_of ws xs [])
-  unfolding cells_of cell_at site_at page_of
-  site-shape = parse-map mute (cell_at ws xs rs ms es) (nodes_in ws) ∙ sym (parse-map mute (site_at ws xs [] 0) (nodes_in ws))
-
-  module _ (s : Sound ws xs) (shape : SameShape ws ws') where
-    two-view : map_t page2 two_tree ≡ cells_of ws' xs' rs ms es
-    unfolding cells_of cell_at site_at
-    two-view =
-        parse-map page2 two_at (nodes_in ws)
-        ∙ parse-same (λ (i : ℕ). on_label page2 (two_at i)) (cell_at ws' xs' rs ms es) (nodes_in ws) s.some (λ i p. ap (λ (n : ℕ). record { size = n; label = page2 (two_at i).label }) (shape.sizes i p))
-        ∙ ap (parse_t (cell_at ws' xs' rs ms es)) shape.nodes
-
-    below-view : map_t below_of two_tree ≡ below_kept (cells_of ws xs rs ms es) q
-    unfolding site_at below_at
-    below-view =
-        parse-map below_of two_at (nodes_in ws)
-        ∙ labels-tree false (site_at ws xs [] 0) (nodes_in ws) (page_of ws xs []) (below_kept (cells_of ws xs rs ms es) q) s.entries (below_shape (cells_of ws xs rs ms es) q ∙ site-shape)
-
-    agree : ((i : ℕ) → i < nodes_in ws → AgreeAt ws xs ws' xs' (below i) i) → AllT Agree two_tree
-    agree h = all_parse Agree two_at (nodes_in ws) s.some (λ i p. at i (h i p))
-      where
-        at : (i : ℕ) → AgreeAt ws xs ws' xs' (below i) i → Agree (two_at i).label
-        at i a =
-            let z : 0 + i ≡ i = omega arith in
-            record { style = λ b. rw z (same_style ws xs ws' xs' i (a.same b)); kind = same_kind ws xs ws' xs' i (0 + i) a.kind; position = same_position ws xs ws' xs' i (0 + i) a.position }
-
-    pub tables-same : ((i : ℕ) → i < nodes_in ws → AgreeAt ws xs ws' xs' (below i) i) → relaid (cells_of ws xs rs ms es) q ≡ relaid (cells_of ws' xs' rs ms es) q
-    tables-same h =
-        ap (λ (t : Tree Cell). relaid t q) (sym one-view)
-        ∙ learns_nothing two_tree q (below-view ∙ ap (λ (t : Tree Cell). below_kept t q) (sym one-view)) (agree h)
-        ∙ ap (λ (t : Tree Cell). relaid t q) two-view

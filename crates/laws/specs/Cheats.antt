@@ -1,5 +1,5 @@
 -- The cheats of document 01, and which promise each of them breaks.
-use Rattle.std.specs.Prelude.{◌≡◌, refl, Bool, true, false, [], ◌∷◌, ℕ, get_or, replicate}
+use Rattle.std.specs.Prelude.{◌≡◌, refl, Bool, true, false, [], ◌∷◌, ℕ, replicate}
 use Rattle.std.proofs.Common.{ap, ◌∙◌, arith}
 use Rattle.std.specs.Float.Ieee.{of_bits, to_bits}
 use Rattle.std.specs.Float.{binary32}
@@ -16,7 +16,6 @@ use Rattle.steps.specs.Page.{Site, Cell}
 use Rattle.steps.proofs.Computed.{steps}
 use Rattle.steps.specs.Kept.{Laid}
 use Rattle.steps.specs.Layout.{relaid, fresh}
-use Rattle.steps.specs.Results.{marks_out}
 use Rattle.steps.specs.declared.LayoutInput.{LayoutInput}
 use Rattle.style.specs.declared.Style.{Style}
 use Rattle.laws.specs.Trees.{AllT, top_t, kids_t, first_f, false_true}
@@ -24,7 +23,6 @@ use Rattle.laws.specs.Pages.{Both, site_by, was_site, now_site, old_of, again, H
 use Rattle.laws.specs.Below.{Two, page1, page2, below_of, Agree, under, below_t, below_kept}
 use Rattle.laws.specs.Final.{unmarked}
 use Rattle.laws.specs.Afresh.{unmarked_fresh}
-use Rattle.laws.specs.Demand3.{relayout_is_fresh, it_learns_nothing}
 
 -- anything that takes a page with its old rows, edit marks and a question
 abbrev pub Relayout : Type 0
@@ -44,37 +42,31 @@ wrap = style_at (1 ∷ 0 ∷ 0x5500000 ∷ 0x55 ∷ []) 0 [] 0
 abbrev high : ℕ → Style
 high h = style_at (1 ∷ 0 ∷ 0x5500004 ∷ 0x55 ∷ []) 0 (zero_f ∷ of_bits binary32 h ∷ replicate 26 zero_f) 0
 
-abbrev asked : LayoutInput
+abbrev pub asked : LayoutInput
 asked = record { known = record { width = Some (of_bits binary32 0x42c8_0000); height = None }; parent = Some (of_bits binary32 0x42c8_0000); basis = None; definiteHeight = false; available = MaxContent; collapseStart = false; collapseEnd = false; nested = false }
 
 -- one box, 10 high, then 20
 abbrev box_row : Row
 box_row = root_t (fresh (node (site_by 0 (high 0x41200000)) none) asked).rows
 
-abbrev grown : Tree Both
+abbrev pub grown : Tree Both
 grown = node (record { node = 0; now = high 0x41a00000; was = high 0x41200000; old = box_row; edit = true }) none
 
-box_rows : map_t old_of grown ≡ (fresh (map_t was_site grown) asked).rows
+pub box_rows : map_t old_of grown ≡ (fresh (map_t was_site grown) asked).rows
 unfolding steps
 box_rows = refl
 
-box_honest : AllT Honest grown
+pub box_honest : AllT Honest grown
 unfolding AllT
 box_honest = ((λ e. false_true true e refl), tt)
 
-box_leaves : LeavesT (map_t now_site grown)
+pub box_leaves : LeavesT (map_t now_site grown)
 unfolding LeavesT map_t
 box_leaves = ((λ _. refl), tt)
 
 -- A relayout that does nothing: the first half.
 abbrev pub does_nothing : Relayout
 does_nothing c q = record { out = output_in (root_t c).old; rows = map_t (λ (x : Cell). x.old) c }
-
-pub doing_nothing_fails : FirstHalf does_nothing → ⊥
-unfolding steps
-doing_nothing_fails h =
-    let z : ◌≡◌ {A = ℕ} 0x41200000 0x41a00000 = ap (λ (l : Laid). to_bits binary32 (root_t l.rows).answer.size.height) (h grown asked asked box_rows box_honest box_leaves) in
-    omega arith
 
 -- One that is right the first time only: there is none. `ChainBy r`: rows that came from a layout by relayouts of r, each given what demand 3 asks.
 pub data ChainBy (r : Relayout) : Tree Site → LayoutInput → Tree Row → Type 0 where
@@ -102,42 +94,30 @@ kept_old = root_t (fresh (node (site_by 0 wrap) none) asked).rows
 abbrev twin : Style → Style → Row → Bool → Forest Two → Tree Two
 twin a b r m ks = node (record { node = 0; one = a; two = b; old = r; edit = false; below = m }) ks
 
-abbrev pages : Tree Two
+abbrev pub pages : Tree Two
 pages = twin wrap wrap no_row false (more (twin wrap wrap kept_old false (more (twin (high 0x40a00000) (high 0x40c00000) no_row true none) none)) none)
 
-pages_below : map_t below_of pages ≡ below_kept (map_t page1 pages) asked
+pub pages_below : map_t below_of pages ≡ below_kept (map_t page1 pages) asked
 unfolding steps under below_t below_kept
 pages_below = refl
 
-pages_agree : AllT Agree pages
+pub pages_agree : AllT Agree pages
 unfolding AllT style_at
 pages_agree = (
   record { style = λ _. refl; kind = refl; position = refl },
   ((record { style = λ _. refl; kind = refl; position = refl }, ((record { style = λ e. false_true true e refl; kind = refl; position = refl }, tt), tt)), tt),
 )
 
-pub laying_afresh_fails : SecondHalf lays_afresh → ⊥
-unfolding steps
-laying_afresh_fails h =
-    let z : ◌≡◌ {A = ℕ} 0x40a00000 0x40c00000 = ap (λ (l : Laid). to_bits binary32 (root_t l.rows).answer.size.height) (h pages asked pages_below pages_agree) in
-    omega arith
-
 -- What is supposed is needed. Below a node that is laid out styles are read: without the marks the second half fails.
-abbrev unkept : Tree Two
+abbrev pub unkept : Tree Two
 unkept = twin wrap wrap no_row false (more (twin wrap wrap no_row false (more (twin (high 0x40a00000) (high 0x40c00000) no_row true none) none)) none)
 
-unkept_agree : AllT Agree unkept
+pub unkept_agree : AllT Agree unkept
 unfolding AllT style_at
 unkept_agree = (
   record { style = λ _. refl; kind = refl; position = refl },
   ((record { style = λ _. refl; kind = refl; position = refl }, ((record { style = λ e. false_true true e refl; kind = refl; position = refl }, tt), tt)), tt),
 )
-
-pub below_laid_is_read : ((t : Tree Two) (q : LayoutInput) → AllT Agree t → relaid (map_t page1 t) q ≡ relaid (map_t page2 t) q) → ⊥
-unfolding steps
-below_laid_is_read h =
-    let z : ◌≡◌ {A = ℕ} 0x40a00000 0x40c00000 = ap (λ (l : Laid). to_bits binary32 (root_t l.rows).answer.size.height) (h unkept asked unkept_agree) in
-    omega arith
 
 -- A change below a block that the list does not name is missed: without an honest list the first half fails.
 abbrev nest : Style → Tree Site
@@ -172,14 +152,14 @@ unnamed_change_is_missed h =
     omega arith
 
 -- Below a kept node kind is read: a block there, or a hidden node.
-abbrev hidden : Style
+abbrev pub hidden : Style
 hidden = style_at (1 ∷ 2 ∷ 0x5500000 ∷ 0x55 ∷ []) 0 [] 0
 
-abbrev aside : Style
+abbrev pub aside : Style
 aside = style_at (1 ∷ 0x20 ∷ 0x5500000 ∷ 0x55 ∷ []) 0 [] 0
 
 -- a kept block over a block in one page, over something else in the other
-abbrev over : Style → Tree Two
+abbrev pub over : Style → Tree Two
 over s = twin wrap wrap no_row false (more (twin wrap wrap kept_old false (more (twin wrap s no_row true none) none)) none)
 
 pub record AgreeButKind (l : Two) : Type 0 where
@@ -190,30 +170,17 @@ pub record AgreeButPosition (l : Two) : Type 0 where
   pub style : l.below ≡ false → l.one ≡ l.two
   pub kind : l.one.kind ≡ l.two.kind
 
-over_below : (s : Style) → map_t below_of (over s) ≡ below_kept (map_t page1 (over s)) asked
+pub over_below : (s : Style) → map_t below_of (over s) ≡ below_kept (map_t page1 (over s)) asked
 unfolding steps under below_t below_kept
 over_below s = refl
 
-hidden_agree : AllT AgreeButKind (over hidden)
+pub hidden_agree : AllT AgreeButKind (over hidden)
 unfolding AllT style_at word_at
 hidden_agree = (record { style = λ _. refl; position = refl }, ((record { style = λ _. refl; position = refl }, ((record { style = λ e. false_true true e refl; position = refl }, tt), tt)), tt))
 
-aside_agree : AllT AgreeButPosition (over aside)
+pub aside_agree : AllT AgreeButPosition (over aside)
 unfolding AllT style_at word_at
 aside_agree = (record { style = λ _. refl; kind = refl }, ((record { style = λ _. refl; kind = refl }, ((record { style = λ e. false_true true e refl; kind = refl }, tt), tt)), tt))
-
-pub kind_is_read : ((t : Tree Two) (q : LayoutInput) → map_t below_of t ≡ below_kept (map_t page1 t) q → AllT AgreeButKind t → relaid (map_t page1 t) q ≡ relaid (map_t page2 t) q) → ⊥
-unfolding steps
-kind_is_read h =
-    let z : ◌≡◌ {A = ℕ} 1 0 = ap (λ (l : Laid). get_or (marks_out l.rows) 5 0) (h (over hidden) asked (over_below hidden) hidden_agree) in
-    omega arith
-
--- and so is position: a block there, or an out-of-flow one
-pub position_is_read : ((t : Tree Two) (q : LayoutInput) → map_t below_of t ≡ below_kept (map_t page1 t) q → AllT AgreeButPosition t → relaid (map_t page1 t) q ≡ relaid (map_t page2 t) q) → ⊥
-unfolding steps
-position_is_read h =
-    let z : ◌≡◌ {A = ℕ} 1 4 = ap (λ (l : Laid). get_or (marks_out l.rows) 5 0) (h (over aside) asked (over_below aside) aside_agree) in
-    omega arith
 
 -- Rows that no layout of the page left are believed: an empty block whose row is that of one with a box of 5 in it.
 abbrev believed : Tree Both
@@ -232,7 +199,3 @@ unfolding steps
 old_rows_are_believed h =
     let z : ◌≡◌ {A = ℕ} 0x40a00000 0 = ap (λ (l : Laid). to_bits binary32 (root_t l.rows).answer.size.height) (h believed asked asked believed_honest believed_leaves) in
     omega arith
-
--- The relayout of the definition has both.
-pub ours : FirstHalf relaid × SecondHalf relaid
-ours = (relayout_is_fresh, it_learns_nothing)

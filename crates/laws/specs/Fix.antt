@@ -20,11 +20,10 @@ use Rattle.style.specs.declared.Flow.TheVariants.{Gone, Out, In}
 use Rattle.steps.specs.declared.LayoutInput.{LayoutInput}
 use Rattle.steps.specs.declared.Frame.{Frame}
 use Rattle.steps.specs.declared.Cursor.{Cursor}
-use Rattle.steps.proofs.Clauses.{frame_at, lay_f_gone, lay_f_out, lay_f_in, fix_t_at, fix_f_none, fix_f_more, leaf_rows, block_rows, leaf_out, block_out, stack_of, shift_of, keep_rows}
+use Rattle.steps.proofs.Clauses.{frame_at, lay_f_gone, lay_f_out, lay_f_in, fix_t_at, fix_f_none, fix_f_more, leaf_rows, block_rows, leaf_out, block_out, stack_of, shift_of}
 use Rattle.steps.proofs.Zeros.{zeros_f_lem}
 use Rattle.laws.specs.Trees.{top_t, kids_t}
-use Rattle.laws.specs.Final.{Alike}
-use Rattle.laws.specs.Bits.{moved_y, kept_row_lem, below_row_lem, out_row, row_small}
+use Rattle.laws.specs.Bits.{moved_y, below_row_lem, row_small}
 use Rattle.laws.specs.Pages.{now_site, LeavesT, LeavesF}
 use Rattle.laws.specs.Along.{Full, old_f, view_n, RowsT, RowsF, ask-view, own_row, down, along-gone, along-out, along-in, next_for, gone-rows, out-rows, in_rows, align_none}
 
@@ -110,10 +109,10 @@ unfolding zeros_f map_f
 fixed_none = fix_f_none
 
 -- fixed is what is laid out: the children of a node, a node, its siblings
-abbrev FixedF : Forest Full → OptionF32 → Frame → Cursor → Type 0
+abbrev pub FixedF : Forest Full → OptionF32 → Frame → Cursor → Type 0
 FixedF ts d f c = fix_f (map_f again_n ts) ≡ align_f d (lay_f (map_f after_n ts) f c).rows
 
-kids_fixed : (l : Full) (ks : Forest Full) (q : LayoutInput) (found : Float) (p : Point) (n : ℕ) → RowsT now_f old_words (node l ks) q found p n → LeavesT (map_t site_f (node l ks))
+pub kids_fixed : (l : Full) (ks : Forest Full) (q : LayoutInput) (found : Float) (p : Point) (n : ℕ) → RowsT now_f old_words (node l ks) q found p n → LeavesT (map_t site_f (node l ks))
     → ((d : OptionF32) (f : Frame) (c : Cursor) → RowsF now_f old_words ks d f c → FixedF ks d f c) → fix_f (map_f again_n ks) ≡ kids_t (lay_t (node (after_n l) (map_f after_n ks)) q found).rows
 unfolding LeavesT map_t
 kids_fixed l ks q found p n e v h = go (is_leaf (now_f l).kind) refl
@@ -125,7 +124,7 @@ kids_fixed l ks q found p n e v h = go (is_leaf (now_f l).kind) refl
         ∙ ap (λ (c : Cursor). align_f (shift_of (after_n l) q found c) (stack_of (after_n l) (map_f after_n ks) q found).rows) (blind_f ks (frame_at (seen_n l) q found) (start_of (frame_at (seen_n l) q found)))
         ∙ sym (ap kids_t (block_rows (after_n l) (map_f after_n ks) q found b))
 
-root_after : (l : Full) (ks : Forest Full) (q : LayoutInput) (found : Float) → (lay_t (map_t after_n (node l ks)) q found).rows ≡ node (laid_row q (lay_t (map_t seen_n (node l ks)) q found).out l.probe) (kids_t (lay_t (node (after_n l) (map_f after_n ks)) q found).rows)
+pub root_after : (l : Full) (ks : Forest Full) (q : LayoutInput) (found : Float) → (lay_t (map_t after_n (node l ks)) q found).rows ≡ node (laid_row q (lay_t (map_t seen_n (node l ks)) q found).out l.probe) (kids_t (lay_t (node (after_n l) (map_f after_n ks)) q found).rows)
 root_after l ks q found = rw (blind_t (node l ks) q found, map_t_node after_n l ks) (go (is_leaf (now_f l).kind) refl)
   where
     go : (b : Bool) → is_leaf (now_f l).kind ≡ b
@@ -133,7 +132,7 @@ root_after l ks q found = rw (blind_t (node l ks) q found, map_t_node after_n l 
     go true e = leaf_rows (after_n l) (map_f after_n ks) q found e ∙ ap (λ (us : Forest Row). node (laid_row q (lay_t (node (after_n l) (map_f after_n ks)) q found).out l.probe) us) (sym (ap kids_t (leaf_rows (after_n l) (map_f after_n ks) q found e)))
     go false e = block_rows (after_n l) (map_f after_n ks) q found e ∙ ap (λ (us : Forest Row). node (laid_row q (lay_t (node (after_n l) (map_f after_n ks)) q found).out l.probe) us) (sym (ap kids_t (block_rows (after_n l) (map_f after_n ks) q found e)))
 
-fix_node : (l : Full) (ks : Forest Full) (q : LayoutInput) (found : Float) (p : Point) (n : ℕ) → RowsT now_f old_words (node l ks) q found p n → flow_of (now_f l) ≡ In
+pub fix_node : (l : Full) (ks : Forest Full) (q : LayoutInput) (found : Float) (p : Point) (n : ℕ) → RowsT now_f old_words (node l ks) q found p n → flow_of (now_f l) ≡ In
     → fix_f (map_f again_n ks) ≡ kids_t (lay_t (node (after_n l) (map_f after_n ks)) q found).rows → fix_t (map_t again_n (node l ks)) ≡ on_root (put_at p n) (lay_t (map_t after_n (node l ks)) q found).rows
 fix_node l ks q found p n e w h =
     ap fix_t (map_t_node again_n l ks) ∙ fix_t_at (again_n l) (map_f again_n ks) In w
@@ -168,19 +167,19 @@ fix_out (node l ks) a b c n w e =
     ∙ ap (λ (us : Forest Row). node (aside_row l.both.old.place.x l.both.old.place.y l.both.old.answer.size.width l.both.old.order) us) (zeros_f_lem again_n ks)
     ∙ ap (λ (r : Row). node (aside_row r.place.x r.place.y r.answer.size.width r.order) (zeros_f ks)) (top_zeros l ks (aside_row a b c n) e) ∙ aside_again a b c n l ks
 
-fixed_nothing : (d : OptionF32) (f : Frame) (c : Cursor) → FixedF none d f c
+pub fixed_nothing : (d : OptionF32) (f : Frame) (c : Cursor) → FixedF none d f c
 unfolding map_f lay_f
 fixed_nothing d f c = fix_f_none ∙ sym (align_none d)
 
-leaves_kids : (l : Full) (ks : Forest Full) → LeavesT (map_t site_f (node l ks)) → LeavesF (map_f site_f ks)
+pub leaves_kids : (l : Full) (ks : Forest Full) → LeavesT (map_t site_f (node l ks)) → LeavesF (map_f site_f ks)
 unfolding LeavesT map_t
 leaves_kids l ks h = h.1
 
-keep_out : (l : Node) (ks : Forest Node) → (keep (node l ks)).out ≡ output_in l.old
+pub keep_out : (l : Node) (ks : Forest Node) → (keep (node l ks)).out ≡ output_in l.old
 unfolding keep
 keep_out l ks = refl
 
-fix_more : (t : Tree Full) (ts : Forest Full) (d : OptionF32) (f : Frame) (c : Cursor) → RowsF now_f old_words (more t ts) d f c
+pub fix_more : (t : Tree Full) (ts : Forest Full) (d : OptionF32) (f : Frame) (c : Cursor) → RowsF now_f old_words (more t ts) d f c
     → ((q : LayoutInput) (p : Point) (n : ℕ) → RowsT now_f old_words t q zero_f p n → flow_of (now_f (root_t t)) ≡ In → fix_t (map_t again_n t) ≡ on_root (put_at p n) (lay_t (map_t after_n t) q zero_f).rows)
     → ((e : Cursor) → RowsF now_f old_words ts d f e → FixedF ts d f e) → FixedF (more t ts) d f c
 fix_more t ts d f c e ht hts = ap fix_f (map_f_more again_n t ts) ∙ fix_f_more _ _ ∙ go (flow_of (now_f (root_t t))) refl
@@ -197,38 +196,3 @@ fix_more t ts d f c e ht hts = ap fix_f (map_f_more again_n t ts) ∙ fix_f_more
         let q = question_to f (now_f (root_t t)) in
         let o : (lay_t (map_t seen_n t) q zero_f).out ≡ (lay_t (map_t after_n t) q zero_f).out = blind_t t q zero_f in
         rw (ht q _ _ h.rows w, hts (next_for now_f old_words t f c) h.rest, o) (sym (in_rows now_f new_words t ts d f c w))
-
-mutual
-  unfolding LeavesT map_t root_t
-
-  pub fix_t_lem : (t : Tree Full) → LeavesT (map_t site_f t) → (q : LayoutInput) (p : Point) (n : ℕ) → RowsT now_f old_words t q zero_f p n → flow_of (now_f (root_t t)) ≡ In
-      → fix_t (map_t again_n t) ≡ on_root (put_at p n) (lay_t (map_t after_n t) q zero_f).rows
-  fix_t_lem (node l ks) v q p n e w = fix_node l ks q zero_f p n e w (kids_fixed l ks q zero_f p n e v (λ d f c r. fix_f_lem ks v.1 d f c r))
-
-  pub fix_f_lem : (ts : Forest Full) → LeavesF (map_f site_f ts) → (d : OptionF32) (f : Frame) (c : Cursor) → RowsF now_f old_words ts d f c → FixedF ts d f c
-  fix_f_lem none v d f c e = fixed_nothing d f c
-  fix_f_lem (more t ts) v d f c e = fix_more t ts d f c e (λ q p n r w. fix_t_lem t v.0 q p n r w) (λ g r. fix_f_lem ts v.1 d f g r)
-
--- a kept node
-pub keep_alike : (l : Full) (ks : Forest Full) (q : LayoutInput) (p : Point) (n : ℕ) → RowsT now_f old_words (node l ks) q zero_f p n → LeavesT (map_t site_f (node l ks))
-    → Alike (keep (map_t again_n (node l ks))) (lay_t (map_t after_n (node l ks)) q zero_f)
-keep_alike l ks q p n e v = record {
-  same_out = ap (λ (t : Tree Node). (keep t).out) (map_t_node again_n l ks) ∙ kept_out ∙ blind_t (node l ks) q zero_f;
-  same_rows = λ y m. ap (λ (t : Tree Node). on_root (put_at y m) (keep t).rows) (map_t_node again_n l ks) ∙ kept-rows y m;
-}
-  where
-    own : l.both.old ≡ put_at p n (laid_row q (lay_t (map_t seen_n (node l ks)) q zero_f).out (old_words l))
-    own = own_row now_f old_words l ks q zero_f p n e
-
-    kept_out : (keep (node (again_n l) (map_f again_n ks))).out ≡ (lay_t (map_t seen_n (node l ks)) q zero_f).out
-    kept_out = keep_out (again_n l) (map_f again_n ks) ∙ ap output_in own ∙ out_row q _ (old_words l) p n (row_small l.both.old)
-
-    kids : fix_f (map_f again_n ks) ≡ kids_t (lay_t (node (after_n l) (map_f after_n ks)) q zero_f).rows
-    kids = kids_fixed l ks q zero_f p n e v (λ d f c r. fix_f_lem ks (leaves_kids l ks v) d f c r)
-
-    kept-rows : (y : Point) (m : ℕ) → on_root (put_at y m) (keep (node (again_n l) (map_f again_n ks))).rows ≡ on_root (put_at y m) (lay_t (map_t after_n (node l ks)) q zero_f).rows
-    kept-rows y m =
-        ap (on_root (put_at y m)) (keep_rows (again_n l) (map_f again_n ks)) ∙ on_root_node (put_at y m) _ _
-        ∙ ap (λ (r : Row). node r (fix_f (map_f again_n ks))) (kept_row_lem (again_n l) (old_words l) q _ p y n m own (row_small l.both.old))
-        ∙ ap (node (put_at y m (laid_row q (lay_t (map_t seen_n (node l ks)) q zero_f).out l.probe))) kids
-        ∙ sym (ap (on_root (put_at y m)) (root_after l ks q zero_f) ∙ on_root_node (put_at y m) _ _)

@@ -4,15 +4,15 @@ use Rattle.std.proofs.Common.{sym, ap, ◌∙◌}
 use Rattle.geometry.specs.Geometry.{zero_f}
 use Rattle.geometry.specs.declared.Point.{Point}
 use Rattle.util.specs.declared.OptionF32.{OptionF32}
-use Rattle.limits.specs.Bools.{and_fst, and_snd, or_left, or_right}
+use Rattle.limits.specs.Bools.{and_fst, and_snd}
 use Rattle.style.specs.declared.Style.{Style}
 use Rattle.tree.specs.Tree.{Tree, Forest, node, none, more, map_t, map_f, root_t, on_root}
 use Rattle.tree.proofs.Laws.{map_t_node, map_f_more, map_map_t}
 use Rattle.style.specs.Flow.{is_leaf, flow_of}
 use Rattle.steps.specs.Stack.{question_to}
 use Rattle.steps.specs.Row.{Row, is_laid, no_row, put_at}
-use Rattle.steps.specs.Page.{Node, any_t, any_f}
-use Rattle.steps.specs.Kept.{kept, edited_node, final_stands, keep, zeros_t, zeros_f}
+use Rattle.steps.specs.Page.{Node, any_t}
+use Rattle.steps.specs.Kept.{kept, edited_node, final_stands, zeros_t, zeros_f}
 use Rattle.steps.specs.Layout.{lay_t}
 use Rattle.style.specs.declared.Flow.{Flow}
 use Rattle.style.specs.declared.Flow.TheVariants.{Gone, Out, In}
@@ -21,30 +21,20 @@ use Rattle.steps.specs.declared.Frame.{Frame}
 use Rattle.steps.specs.declared.Cursor.{Cursor}
 use Rattle.steps.proofs.Zeros.{no_row_lem}
 use Rattle.laws.specs.Trees.{AllT, AllF, all-any-F, all-map-T, all-map-F, all-back-T, all-back-F, not_true}
-use Rattle.laws.specs.Final.{bare_n, Alike, SoundT, SoundF, Unlaid, unlaid_t, unlaid_f}
-use Rattle.laws.specs.Bits.{final_is, row_small, hidden_row_lem, aside_row_lem}
-use Rattle.laws.specs.Pages.{site_by, Honest, LeavesT, LeavesF}
-use Rattle.laws.specs.Along.{Full, old_f, view_n, RowsT, RowsF, own_row, down, down-leaf, along-gone, along-out, along-in}
-use Rattle.laws.specs.Fix.{now_f, was_f, old_words, again_n, after_n, site_f, keep_alike, seen_n}
+use Rattle.laws.specs.Final.{bare_n, SoundT, SoundF, Unlaid, unlaid_t, unlaid_f}
+use Rattle.laws.specs.Bits.{hidden_row_lem, aside_row_lem}
+use Rattle.laws.specs.Pages.{site_by, Honest}
+use Rattle.laws.specs.Along.{Full, old_f, view_n, RowsT, RowsF, down, down-leaf, along-gone, along-out, along-in}
+use Rattle.laws.specs.Fix.{now_f, was_f, old_words, again_n, after_n, seen_n}
 
 abbrev pub HonestL : Full → Type 0
 HonestL l = Honest l.both
 
 -- no edit at or below: this part of the page is as it was
-abbrev Same : Full → Type 0
+abbrev pub Same : Full → Type 0
 Same l = was_f l ≡ now_f l
 
-mutual
-  unfolding AllT map_t any_t edited_node
-
-  same_t : (t : Tree Full) → AllT HonestL t → any_t edited_node (map_t again_n t) ≡ false → AllT Same t
-  same_t (node l ks) h e = (h.0 (or_left l.both.edit _ e), same_f_lem ks h.1 (or_right l.both.edit _ e))
-
-  same_f_lem : (ts : Forest Full) → AllF HonestL ts → any_f edited_node (map_f again_n ts) ≡ false → AllF Same ts
-  same_f_lem none h e = tt
-  same_f_lem (more t ts) h e = (same_t t h.0 (or_left (any_t edited_node (map_t again_n t)) _ e), same_f_lem ts h.1 (or_right (any_t edited_node (map_t again_n t)) _ e))
-
-abbrev before_n : Full → Node
+abbrev pub before_n : Full → Node
 before_n = view_n was_f old_words
 
 same_view : (l : Full) → Same l → before_n l ≡ seen_n l
@@ -53,7 +43,7 @@ same_view l e = ap (λ (s : Style). record { site = site_by l.both.node s; old =
 mutual
   unfolding AllT map_t
 
-  clean_t : (t : Tree Full) → AllT Same t → map_t before_n t ≡ map_t seen_n t
+  pub clean_t : (t : Tree Full) → AllT Same t → map_t before_n t ≡ map_t seen_n t
   clean_t (node l ks) h = rw (same_view l h.0, clean_f ks h.1)
 
   clean_f : (ts : Forest Full) → AllF Same ts → map_f before_n ts ≡ map_f seen_n ts
@@ -61,31 +51,21 @@ mutual
   clean_f (more t ts) h = rw (clean_t t h.0, clean_f ts h.1)
 
 -- a node that was laid
-top_same : (l : Full) (ks : Forest Full) → AllT Same (node l ks) → was_f l ≡ now_f l
+pub top_same : (l : Full) (ks : Forest Full) → AllT Same (node l ks) → was_f l ≡ now_f l
 unfolding AllT
 top_same l ks h = h.0
 
-abbrev Rows : Tree Full → (Full → Style) → LayoutInput → Point → ℕ → Type 0
+abbrev pub Rows : Tree Full → (Full → Style) → LayoutInput → Point → ℕ → Type 0
 Rows t st q p n = RowsT st old_words t q zero_f p n
 
-at_style : (m : Tree Row) (u : Tree Node) (g : Frame) (p : Point) (n : ℕ) (s z : Style) → s ≡ z → m ≡ on_root (put_at p n) (lay_t u (question_to g s) zero_f).rows → m ≡ on_root (put_at p n) (lay_t u (question_to g z) zero_f).rows
+pub at_style : (m : Tree Row) (u : Tree Node) (g : Frame) (p : Point) (n : ℕ) (s z : Style) → s ≡ z → m ≡ on_root (put_at p n) (lay_t u (question_to g s) zero_f).rows → m ≡ on_root (put_at p n) (lay_t u (question_to g z) zero_f).rows
 at_style m u g p n s z d e = rw d at e
 
-kept_parts : (l : Full) (ks : Forest Full) (q : LayoutInput) → kept (map_t again_n (node l ks)) q ≡ true → (any_t edited_node (map_t again_n (node l ks)) ≡ false) × (final_stands q l.both.old ≡ true)
+pub kept_parts : (l : Full) (ks : Forest Full) (q : LayoutInput) → kept (map_t again_n (node l ks)) q ≡ true → (any_t edited_node (map_t again_n (node l ks)) ≡ false) × (final_stands q l.both.old ≡ true)
 unfolding kept root_t map_t
 kept_parts l ks q k =
     let a = not_true _ (and_fst (not (any_t edited_node (map_t again_n (node l ks)))) _ k) in
     (a, and_snd (not l.anew) _ (and_snd (not (any_t edited_node (map_t again_n (node l ks)))) _ k))
-
-sound_here : (l : Full) (ks : Forest Full) (g : Frame) (p : Point) (n : ℕ) → Rows (node l ks) was_f (question_to g (was_f l)) p n → AllT HonestL (node l ks) → LeavesT (map_t site_f (node l ks))
-    → (f : Frame) → kept (map_t again_n (node l ks)) (question_to f (now_f l)) ≡ true → Alike (keep (map_t again_n (node l ks))) (lay_t (map_t after_n (node l ks)) (question_to f (now_f l)) zero_f)
-sound_here l ks g p n e h v f k =
-    let z = kept_parts l ks (question_to f (now_f l)) k in
-    let s : AllT Same (node l ks) = same_t (node l ks) h z.0 in
-    let e1 : Rows (node l ks) was_f (question_to g (now_f l)) p n = at_style _ _ g p n _ _ (top_same l ks s) e in
-    let e2 : Rows (node l ks) now_f (question_to g (now_f l)) p n = rw (clean_t (node l ks) s) at e1 in
-    let q : question_to f (now_f l) ≡ question_to g (now_f l) = final_is f g (now_f l) _ (old_words l) p n l.both.old (own_row now_f old_words l ks (question_to g (now_f l)) zero_f p n e2) (row_small l.both.old) z.1 in
-    rw q (keep_alike l ks (question_to g (now_f l)) p n e2 v)
 
 -- rows that are not laid
 abbrev pub Off : Row → Type 0
@@ -110,19 +90,19 @@ off_sound_f ts e =
     unlaid_f _ (all-back-F again_n Unlaid ts (all-map-F old_f Off ts z))
 
 -- what is kept nowhere, and the after page
-after_bare : (l : Full) (ks : Forest Full) → map_t bare_n (node (again_n l) (map_f again_n ks)) ≡ map_t after_n (node l ks)
+pub after_bare : (l : Full) (ks : Forest Full) → map_t bare_n (node (again_n l) (map_f again_n ks)) ≡ map_t after_n (node l ks)
 after_bare l ks = ap (map_t bare_n) (sym (map_t_node again_n l ks)) ∙ map_map_t bare_n again_n (node l ks)
 
 both_sound : (t : Tree Node) (ts : Forest Node) → SoundT t → SoundF ts → SoundF (more t ts)
 unfolding SoundF
 both_sound t ts a b = (a, b)
 
-none_sound : SoundF (map_f again_n none)
+pub none_sound : SoundF (map_f again_n none)
 unfolding SoundF map_f
 none_sound = tt
 
 -- down and along
-good_kids : (l : Full) (ks : Forest Full) (q : LayoutInput) (found : Float) (p : Point) (n : ℕ) → RowsT was_f old_words (node l ks) q found p n
+pub good_kids : (l : Full) (ks : Forest Full) (q : LayoutInput) (found : Float) (p : Point) (n : ℕ) → RowsT was_f old_words (node l ks) q found p n
     → ((d : OptionF32) (f : Frame) (c : Cursor) → RowsF was_f old_words ks d f c → SoundF (map_f again_n ks)) → SoundF (map_f again_n ks)
 good_kids l ks q found p n e h = go (is_leaf (was_f l).kind) refl
   where
@@ -130,12 +110,7 @@ good_kids l ks q found p n e h = go (is_leaf (was_f l).kind) refl
     go true b = off_sound_f ks (down-leaf was_f old_words l ks q found p n e b)
     go false b = h _ _ _ (down was_f old_words l ks q found p n e b)
 
-good_node : (l : Full) (ks : Forest Full) (g : Frame) (p : Point) (n : ℕ) → Rows (node l ks) was_f (question_to g (was_f l)) p n → AllT HonestL (node l ks) → LeavesT (map_t site_f (node l ks))
-    → SoundF (map_f again_n ks) → SoundT (map_t again_n (node l ks))
-unfolding SoundT map_t
-good_node l ks g p n e h v s = ((λ f k. rw (after_bare l ks) (sound_here l ks g p n e h v f k)), s)
-
-good_more : (t : Tree Full) (ts : Forest Full) (d : OptionF32) (f : Frame) (c : Cursor) → RowsF was_f old_words (more t ts) d f c
+pub good_more : (t : Tree Full) (ts : Forest Full) (d : OptionF32) (f : Frame) (c : Cursor) → RowsF was_f old_words (more t ts) d f c
     → ((p : Point) (n : ℕ) → Rows t was_f (question_to f (was_f (root_t t))) p n → SoundT (map_t again_n t)) → ((e : Cursor) → RowsF was_f old_words ts d f e → SoundF (map_f again_n ts))
     → SoundF (map_f again_n (more t ts))
 good_more t ts d f c e ht hts = rw (map_f_more again_n t ts) (go (flow_of (was_f (root_t t))) refl)
@@ -150,18 +125,3 @@ good_more t ts d f c e ht hts = rw (map_f_more again_n t ts) (go (flow_of (was_f
     go In w =
         let h = along-in was_f old_words t ts d f c e w in
         both_sound _ _ (ht _ _ h.rows) (hts _ h.rest)
-
-mutual
-  unfolding AllT LeavesT map_t root_t
-
-  good_t : (t : Tree Full) → AllT HonestL t → LeavesT (map_t site_f t) → (g : Frame) (p : Point) (n : ℕ) → Rows t was_f (question_to g (was_f (root_t t))) p n → SoundT (map_t again_n t)
-  good_t (node l ks) h v g p n e = good_node l ks g p n e h v (good_kids l ks _ zero_f p n e (λ d f c r. good_f ks h.1 v.1 d f c r))
-
-  pub good_f : (ts : Forest Full) → AllF HonestL ts → LeavesF (map_f site_f ts) → (d : OptionF32) (f : Frame) (c : Cursor) → RowsF was_f old_words ts d f c → SoundF (map_f again_n ts)
-  good_f none h v d f c e = none_sound
-  good_f (more t ts) h v d f c e = good_more t ts d f c e (λ p n r. good_t t h.0 v.0 f p n r) (λ b r. good_f ts h.1 v.1 d f b r)
-
--- the page: the root itself is not kept
-pub good_page : (l : Full) (ks : Forest Full) → AllT HonestL (node l ks) → LeavesT (map_t site_f (node l ks)) → (q : LayoutInput) (found : Float) (p : Point) (n : ℕ) → RowsT was_f old_words (node l ks) q found p n → SoundF (map_f again_n ks)
-unfolding AllT LeavesT map_t
-good_page l ks h v q found p n e = good_kids l ks q found p n e (λ d f c r. good_f ks h.1 v.1 d f c r)

@@ -9,7 +9,6 @@ use Rattle.steps.specs.Stack.{question_to}
 use Rattle.steps.specs.Page.{Node}
 use Rattle.steps.specs.Kept.{kept}
 use Rattle.style.specs.declared.Flow.{Flow}
-use Rattle.style.specs.declared.Flow.TheVariants.{Gone, Out, In}
 use Rattle.steps.specs.declared.LayoutInput.{LayoutInput}
 use Rattle.steps.specs.declared.Frame.{Frame}
 use Rattle.steps.proofs.Clauses.{by_test, by_flow, style_t}
@@ -58,23 +57,10 @@ pub marks_laid : (t : Tree Node) (f : Frame) → kept t (question_to f (style_t 
 unfolding marks_in
 marks_laid t f e = ap (λ (b : Bool). by_test b (under t) (below_t t (question_to f (style_t t)) zero_f)) e
 
-top_under : {A : Type 0} (t : Tree A) → top_t (under t) ≡ false
+pub top_under : {A : Type 0} (t : Tree A) → top_t (under t) ≡ false
 unfolding under on_root map_t
 top_under (node a ks) = refl
 
-top_false : {A : Type 0} (t : Tree A) → top_t (map_t (λ _. false) t) ≡ false
+pub top_false : {A : Type 0} (t : Tree A) → top_t (map_t (λ _. false) t) ≡ false
 unfolding map_t
 top_false (node a ks) = refl
-
--- the root of a child of a container that is laid out is not below a kept node
-pub marks_top : (t : Tree Node) (f : Frame) → top_t (marks_of t f) ≡ false
-marks_top t f = go (flow_of (style_t t)) refl
-  where
-    in_top : (b : Bool) → kept t (question_to f (style_t t)) ≡ b → top_t (marks_in t f) ≡ false
-    in_top true e = ap top_t (marks_kept t f e) ∙ top_under t
-    in_top false e = ap top_t (marks_laid t f e) ∙ below_top t _ zero_f
-
-    go : (w : Flow) → flow_of (style_t t) ≡ w → top_t (marks_of t f) ≡ false
-    go Gone e = ap top_t (marks_at t f Gone e) ∙ top_false t
-    go Out e = ap top_t (marks_at t f Out e) ∙ top_false t
-    go In e = ap top_t (marks_at t f In e) ∙ in_top (kept t (question_to f (style_t t))) refl

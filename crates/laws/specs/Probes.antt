@@ -4,7 +4,7 @@ use Rattle.std.proofs.Common.{sym, ap, ◌∙◌}
 use Rattle.geometry.specs.Geometry.{zero_f}
 use Rattle.util.specs.declared.OptionF32.{OptionF32}
 use Rattle.util.specs.declared.OptionF32.TheVariants.{None, Some}
-use Rattle.limits.specs.Bools.{and_fst, and_snd, or_left, or_right}
+use Rattle.limits.specs.Bools.{and_fst, and_snd}
 use Rattle.length.specs.declared.AvailableSpace.{AvailableSpace}
 use Rattle.style.specs.declared.Style.{Style}
 use Rattle.tree.specs.Tree.{Tree, Forest, node, none, more, map_t, map_f, root_t}
@@ -12,18 +12,17 @@ use Rattle.tree.proofs.Laws.{map_t_node, map_f_more, map_map_t, map_map_f}
 use Rattle.style.specs.Flow.{is_leaf}
 use Rattle.steps.specs.Width.{want_of}
 use Rattle.steps.specs.Row.{ProbeWords, no_row, no_probe, probe_of, probe_note}
-use Rattle.steps.specs.Page.{Cell, Node, any_t, any_f, edits, cleared, staying, probed_anew}
-use Rattle.steps.specs.Probe.{Probed, Widest, probe_stands, answered, stay, probe_t, probe_f, asked, block_probe, probe_known, space_in, widen, pass_by, width_pass, ask_p}
+use Rattle.steps.specs.Page.{Cell, Node, any_t, edits, cleared, staying, probed_anew}
+use Rattle.steps.specs.Probe.{Probed, Widest, probe_stands, answered, stay, probe_t, probe_f, asked, block_probe, probe_known, space_in, widen, pass_by, ask_p}
 use Rattle.steps.specs.declared.Want.{Want}
 use Rattle.steps.specs.declared.Want.TheVariants.{Nothing, Outer}
 use Rattle.steps.specs.declared.Want.TheVariants as want
 use Rattle.steps.specs.declared.ProbeInput.{ProbeInput}
-use Rattle.steps.specs.declared.LayoutInput.{LayoutInput}
 use Rattle.steps.proofs.Clauses.{style_c, probe_t_leaf, probe_t_block, probe_f_at}
 use Rattle.laws.specs.Trees.{AllT, AllF, top_t, kids_t, first_f, rest_f, all-T, all-F, all-any-F, all-any-T, all-map-T, all-map-F, all-back-T, all-back-F, not_true}
-use Rattle.laws.specs.Widths.{bare_c, probe_in, AlikeP, TrueT, TrueF, clear_t, clear_f, bare_reply, Unprobed, unprobed_t, unprobed_f}
-use Rattle.laws.specs.Bits.{probe_is, no_probe_lem}
-use Rattle.laws.specs.Pages.{Both, site_by, now_site, was_site, again, Honest}
+use Rattle.laws.specs.Widths.{bare_c, probe_in, TrueT, TrueF, clear_t, clear_f, bare_reply, Unprobed, unprobed_t, unprobed_f}
+use Rattle.laws.specs.Bits.{no_probe_lem}
+use Rattle.laws.specs.Pages.{Both, site_by, now_site, was_site, again}
 
 -- the words of the old rows; the two pages with nothing kept
 abbrev pub words_of : Both → ProbeWords
@@ -35,18 +34,8 @@ before_c l = record { site = was_site l; old = no_row }
 abbrev pub after_c : Both → Cell
 after_c l = record { site = now_site l; old = no_row }
 
-abbrev Same : Both → Type 0
+abbrev pub Same : Both → Type 0
 Same l = l.was ≡ l.now
-
-mutual
-  unfolding AllT map_t any_t edits
-
-  same_t : (t : Tree Both) → AllT Honest t → any_t edits (map_t again t) ≡ false → AllT Same t
-  same_t (node l ks) h e = (h.0 (or_left l.edit _ e), same_f_lem ks h.1 (or_right l.edit _ e))
-
-  same_f_lem : (ts : Forest Both) → AllF Honest ts → any_f edits (map_f again ts) ≡ false → AllF Same ts
-  same_f_lem none h e = tt
-  same_f_lem (more t ts) h e = (same_t t h.0 (or_left (any_t edits (map_t again t)) _ e), same_f_lem ts h.1 (or_right (any_t edits (map_t again t)) _ e))
 
 same_cell : (l : Both) → Same l → before_c l ≡ after_c l
 same_cell l e = ap (λ (s : Style). record { site = site_by l.node s; old = no_row }) e
@@ -54,7 +43,7 @@ same_cell l e = ap (λ (s : Style). record { site = site_by l.node s; old = no_r
 mutual
   unfolding AllT map_t
 
-  clean_t : (t : Tree Both) → AllT Same t → map_t before_c t ≡ map_t after_c t
+  pub clean_t : (t : Tree Both) → AllT Same t → map_t before_c t ≡ map_t after_c t
   clean_t (node l ks) h = rw (same_cell l h.0, clean_f ks h.1)
 
   clean_f : (ts : Forest Both) → AllF Same ts → map_f before_c ts ≡ map_f after_c ts
@@ -71,7 +60,7 @@ unfolding block_probe
 box_top l q ks None r = asked_top l q _ _
 box_top l q ks (Some w) r = asked_top l q w _
 
-probe_top : (t : Tree Cell) (q : ProbeInput) → top_t (map_t probe_in (probe_t t q).nodes) ≡ probe_note q (probe_t t q).answer
+pub probe_top : (t : Tree Cell) (q : ProbeInput) → top_t (map_t probe_in (probe_t t q).nodes) ≡ probe_note q (probe_t t q).answer
 probe_top (node l ks) q = go (is_leaf l.site.style.kind) refl
   where
     go : (b : Bool) → is_leaf l.site.style.kind ≡ b → top_t (map_t probe_in (probe_t (node l ks) q).nodes) ≡ probe_note q (probe_t (node l ks) q).answer
@@ -79,37 +68,27 @@ probe_top (node l ks) q = go (is_leaf l.site.style.kind) refl
     go false e = rw (probe_t_block l ks q e) (box_top l q ks (probe_known l.site.style q).width _)
 
 -- the words of a subtree are those of a probe put to it as it was
-abbrev WordsT : Tree Both → ProbeInput → Type 0
+abbrev pub WordsT : Tree Both → ProbeInput → Type 0
 WordsT t g = map_t words_of t ≡ map_t probe_in (probe_t (map_t before_c t) g).nodes
 
-abbrev WordsF : Forest Both → AvailableSpace → Float → Type 0
+abbrev pub WordsF : Forest Both → AvailableSpace → Float → Type 0
 WordsF ts a m = map_f words_of ts ≡ map_f probe_in (probe_f (map_f before_c ts) a m).nodes
 
-answered_parts : (l : Both) (ks : Forest Both) (q : ProbeInput) → answered (map_t again (node l ks)) q ≡ true → (any_t edits (map_t again (node l ks)) ≡ false) × (probe_stands q l.old ≡ true)
+pub answered_parts : (l : Both) (ks : Forest Both) (q : ProbeInput) → answered (map_t again (node l ks)) q ≡ true → (any_t edits (map_t again (node l ks)) ≡ false) × (probe_stands q l.old ≡ true)
 unfolding answered root_t map_t
 answered_parts l ks q k = (not_true _ (and_fst (not (any_t edits (map_t again (node l ks)))) _ k), and_snd (not (any_t edits (map_t again (node l ks)))) _ k)
 
-stay_words : (t : Tree Both) → map_t probe_in (stay (map_t again t)).nodes ≡ map_t words_of t
+pub stay_words : (t : Tree Both) → map_t probe_in (stay (map_t again t)).nodes ≡ map_t words_of t
 unfolding stay staying
 stay_words t = map_map_t probe_in staying (map_t again t) ∙ map_map_t (λ (c : Cell). probe_of c.old) again t
 
-stay_answer : (l : Both) (ks : Forest Both) → (stay (map_t again (node l ks))).answer ≡ (probe_of l.old).numbers.answer
+pub stay_answer : (l : Both) (ks : Forest Both) → (stay (map_t again (node l ks))).answer ≡ (probe_of l.old).numbers.answer
 unfolding stay root_t map_t probe_of
 stay_answer l ks = refl
 
-note_answer : (q : ProbeInput) (a : Float) → (probe_note q a).numbers.answer ≡ a
+pub note_answer : (q : ProbeInput) (a : Float) → (probe_note q a).numbers.answer ≡ a
 unfolding probe_note
 note_answer q a = refl
-
-true_here : (l : Both) (ks : Forest Both) (g : ProbeInput) → WordsT (node l ks) g → AllT Honest (node l ks) → (q : ProbeInput) → answered (map_t again (node l ks)) q ≡ true
-    → AlikeP (stay (map_t again (node l ks))) (probe_t (map_t after_c (node l ks)) q)
-true_here l ks g e h q k =
-    let z = answered_parts l ks q k in
-    let c : map_t before_c (node l ks) ≡ map_t after_c (node l ks) = clean_t (node l ks) (same_t (node l ks) h z.0) in
-    let w : map_t words_of (node l ks) ≡ map_t probe_in (probe_t (map_t after_c (node l ks)) g).nodes = rw c at e in
-    let n : probe_of l.old ≡ probe_note g (probe_t (map_t after_c (node l ks)) g).answer = ap top_t (sym (map_t_node words_of l ks) ∙ w) ∙ probe_top (map_t after_c (node l ks)) g in
-    let p : q ≡ g = probe_is q g _ l.old n z.1 in
-    rw p (record { same_answer = stay_answer l ks ∙ ap (λ (x : ProbeWords). x.numbers.answer) n ∙ note_answer g _; same_words = stay_words (node l ks) ∙ w })
 
 -- words of zeros
 quiet_t : (t : Tree Both) → map_t words_of t ≡ map_t (λ (_ : Both). no_probe) t → TrueT (map_t again t)
@@ -132,7 +111,7 @@ quiet_cleared : (ts : Forest Both) → map_f words_of ts ≡ map_f probe_in (map
 quiet_cleared ts e = quiet_f ts (e ∙ clear_f (map_f before_c ts) ∙ map_map_f (λ (_ : Cell). no_probe) before_c ts)
 
 -- the page with nothing kept
-after_bare : (l : Both) (ks : Forest Both) → map_t bare_c (node (again l) (map_f again ks)) ≡ map_t after_c (node l ks)
+pub after_bare : (l : Both) (ks : Forest Both) → map_t bare_c (node (again l) (map_f again ks)) ≡ map_t after_c (node l ks)
 after_bare l ks = ap (map_t bare_c) (sym (map_t_node again l ks)) ∙ map_map_t bare_c again (node l ks)
 
 before_reply : (t : Tree Both) (q : ProbeInput) → ask_p (map_t before_c t) q ≡ probe_t (map_t before_c t) q
@@ -145,7 +124,7 @@ both_true : (t : Tree Cell) (ts : Forest Cell) → TrueT t → TrueF ts → True
 unfolding TrueF
 both_true t ts a b = (a, b)
 
-none_true : TrueF (map_f again none)
+pub none_true : TrueF (map_f again none)
 unfolding TrueF map_f
 none_true = tt
 
@@ -160,7 +139,7 @@ unfolding block_probe
 box_kids l g ts None r x e h = h (e ∙ asked_kids l g _ _)
 box_kids l g ts (Some w) r x e h = quiet_cleared ts (e ∙ asked_kids l g w _)
 
-good_kids : (l : Both) (ks : Forest Both) (g : ProbeInput) → WordsT (node l ks) g → ((a : AvailableSpace) (m : Float) → WordsF ks a m → TrueF (map_f again ks)) → TrueF (map_f again ks)
+pub good_kids : (l : Both) (ks : Forest Both) (g : ProbeInput) → WordsT (node l ks) g → ((a : AvailableSpace) (m : Float) → WordsF ks a m → TrueF (map_f again ks)) → TrueF (map_f again ks)
 good_kids l ks g e h = go (is_leaf l.was.kind) refl
   where
     k : map_f words_of ks ≡ kids_t (map_t probe_in (probe_t (node (before_c l) (map_f before_c ks)) g).nodes)
@@ -172,15 +151,11 @@ good_kids l ks g e h = go (is_leaf l.was.kind) refl
         box_kids (before_c l) g ks (probe_known l.was g).width _ none (k ∙ ap (λ (p : Probed). kids_t (map_t probe_in p.nodes)) (probe_t_block (before_c l) (map_f before_c ks) g b))
         (λ r. h (space_in l.was None g.available) zero_f r)
 
-good_node : (l : Both) (ks : Forest Both) (g : ProbeInput) → WordsT (node l ks) g → AllT Honest (node l ks) → TrueF (map_f again ks) → TrueT (map_t again (node l ks))
-unfolding TrueT map_t
-good_node l ks g e h s = ((λ q k. rw (after_bare l ks) (true_here l ks g e h q k)), s)
-
 widen_first : (m : Float) (t : Tree Node) (g : Float → Widest) → map_f probe_in (widen m t g).nodes ≡ more (map_t probe_in t) (map_f probe_in (g m).nodes)
 unfolding widen map_f
 widen_first m t g = refl
 
-good_more : (t : Tree Both) (ts : Forest Both) (a : AvailableSpace) (m : Float) → WordsF (more t ts) a m → ((g : ProbeInput) → WordsT t g → TrueT (map_t again t)) → ((k : Float) → WordsF ts a k → TrueF (map_f again ts))
+pub good_more : (t : Tree Both) (ts : Forest Both) (a : AvailableSpace) (m : Float) → WordsF (more t ts) a m → ((g : ProbeInput) → WordsT t g → TrueT (map_t again t)) → ((k : Float) → WordsF ts a k → TrueF (map_f again ts))
     → TrueF (map_f again (more t ts))
 good_more t ts a m e ht hts = rw (map_f_more again t ts) (go (want_of (style_c (map_t before_c t)) a) refl)
   where
@@ -204,24 +179,9 @@ good_more t ts a m e ht hts = rw (map_f_more again t ts) (go (want_of (style_c (
     go (want.Probe g) p =
         done _ _ (at (want.Probe g) _ _ (probe_f_at (map_t before_c t) (map_f before_c ts) a m (want.Probe g) p)) (λ w. ht g (w ∙ ap (λ (x : Probed). map_t probe_in x.nodes) (before_reply t g)))
 
-mutual
-  unfolding AllT
-
-  good_t : (t : Tree Both) → AllT Honest t → (g : ProbeInput) → WordsT t g → TrueT (map_t again t)
-  good_t (node l ks) h g e = good_node l ks g e h (good_kids l ks g e (λ a m r. good_f ks h.1 a m r))
-
-  pub good_f : (ts : Forest Both) → AllF Honest ts → (a : AvailableSpace) (m : Float) → WordsF ts a m → TrueF (map_f again ts)
-  good_f none h a m e = none_true
-  good_f (more t ts) h a m e = good_more t ts a m e (λ g r. good_t t h.0 g r) (λ k r. good_f ts h.1 a k r)
-
 -- the page
-page_true : (l : Both) (ks : Forest Both) (c : Cell) (w parent : OptionF32) (r : Widest) → map_t words_of (node l ks) ≡ map_t probe_in (pass_by c (map_f before_c ks) w parent r).nodes
+pub page_true : (l : Both) (ks : Forest Both) (c : Cell) (w parent : OptionF32) (r : Widest) → map_t words_of (node l ks) ≡ map_t probe_in (pass_by c (map_f before_c ks) w parent r).nodes
     → (map_f words_of ks ≡ map_f probe_in r.nodes → TrueF (map_f again ks)) → TrueF (map_f again ks)
 unfolding pass_by cleared map_t
 page_true l ks c None parent r e h = h (ap kids_t e)
 page_true l ks c (Some w) parent r e h = quiet_cleared ks (ap kids_t e)
-
-pub pass_true : (l : Both) (ks : Forest Both) (q : LayoutInput) → AllT Honest (node l ks) → map_t words_of (node l ks) ≡ map_t probe_in (width_pass (map_t before_c (node l ks)) q).nodes → TrueF (map_f again ks)
-unfolding width_pass AllT
-pass_true l ks q h e =
-    page_true l ks (before_c l) _ q.parent _ (e ∙ ap (λ (t : Tree Cell). map_t probe_in (width_pass t q).nodes) (map_t_node before_c l ks)) (λ r. good_f ks h.1 _ zero_f r)

@@ -1,35 +1,30 @@
 -- Relayout is fresh: from the rows of a fresh layout, any later page with an honest edit list, any question.
-use Rattle.std.specs.Prelude.{◌≡◌, refl, Bool, true, false, Float}
+use Rattle.std.specs.Prelude.{◌≡◌, refl, true, false, Float}
 use Rattle.std.proofs.Common.{sym, ◌∙◌}
 use Rattle.std.proofs.Math.Path.{ap}
 use Rattle.geometry.specs.Geometry.{zero_f}
 use Rattle.geometry.specs.declared.Point.{Point}
 use Rattle.tree.specs.Tree.{Tree, Forest, node, map_t, map_f, root_t, on_root}
-use Rattle.tree.proofs.Laws.{map_t_node, root_t_node, root_t_map, map_map_t, map_map_f}
+use Rattle.tree.proofs.Laws.{map_map_f}
 use Rattle.style.specs.Flow.{is_leaf}
 use Rattle.steps.specs.Row.{Row, ProbeWords, no_row, no_probe, laid_row, put_at, probe_of}
-use Rattle.steps.specs.Page.{Site, Cell, Node, blank}
-use Rattle.steps.specs.Probe.{width_pass}
-use Rattle.steps.specs.Kept.{Laid, zeros_t, zeros_f}
-use Rattle.steps.specs.Layout.{lay_t, relaid, fresh}
+use Rattle.steps.specs.Page.{Site, Cell, Node}
+use Rattle.steps.specs.Kept.{zeros_t, zeros_f}
+use Rattle.steps.specs.Layout.{lay_t}
 use Rattle.steps.specs.declared.LayoutInput.{LayoutInput}
 use Rattle.steps.specs.declared.LayoutOutput.{LayoutOutput}
 use Rattle.steps.proofs.Clauses.{style_t, leaf_rows}
-use Rattle.steps.proofs.Zeros.{zeros_t_lem}
-use Rattle.steps.proofs.Cells.{pass_cells, cell_in}
-use Rattle.laws.specs.Trees.{AllT, AllF, kids_t, all-any-T, all-map-T, all-map-F, all-back-T, settle-T, Joint, joint-T}
-use Rattle.laws.specs.Final.{bare_n, SoundF, unlaid_f}
-use Rattle.laws.specs.Widths.{bare_c, probe_in, TrueF}
-use Rattle.laws.specs.Afresh.{site_in, site_of, sites_t, Zero, zero_unlaid, bare_relaid, sound_relaid, fresh_bare}
-use Rattle.laws.specs.Pages.{Both, now_site, was_site, old_of, again, Honest, LeavesT}
-use Rattle.laws.specs.Along.{Full, view_n, RowsT, root_row}
-use Rattle.laws.specs.Fix.{was_f, old_words, again_n, site_f}
-use Rattle.laws.specs.Good.{HonestL, good_page, Off, off_zeros_f}
-use Rattle.laws.specs.Rides.{WellT, ride_t, pass_well, zero_words}
-use Rattle.laws.specs.Probes.{words_of, before_c, pass_true, quiet_f}
+use Rattle.steps.proofs.Cells.{cell_in}
+use Rattle.laws.specs.Trees.{kids_t, Joint, joint-T}
+use Rattle.laws.specs.Final.{bare_n}
+use Rattle.laws.specs.Afresh.{site_of}
+use Rattle.laws.specs.Pages.{Both, was_site, again}
+use Rattle.laws.specs.Along.{Full, view_n, root_row}
+use Rattle.laws.specs.Fix.{was_f, old_words, again_n}
+use Rattle.laws.specs.Rides.{zero_words}
 
 -- a root row is at 0, 0 and first
-abbrev home : Point
+abbrev pub home : Point
 home = record { x = zero_f; y = zero_f }
 
 home_row : (q : LayoutInput) (o : LayoutOutput) (p : ProbeWords) → laid_row q o p ≡ put_at home 0 (laid_row q o p)
@@ -40,11 +35,11 @@ home_on : (u : Tree Row) (r : Row) → root_t u ≡ r → r ≡ put_at home 0 r 
 unfolding root_t on_root
 home_on (node s us) r e h = ap (λ (x : Row). node x us) (e ∙ h ∙ ap (put_at home 0) (sym e))
 
-at_home : (t : Tree Node) (q : LayoutInput) (found : Float) → (lay_t t q found).rows ≡ on_root (put_at home 0) (lay_t t q found).rows
+pub at_home : (t : Tree Node) (q : LayoutInput) (found : Float) → (lay_t t q found).rows ≡ on_root (put_at home 0) (lay_t t q found).rows
 at_home (node n ks) q found = home_on _ _ (root_row n ks q found) (home_row q _ n.probe)
 
 -- one tree of the page with its rows and of the nodes after the width pass
-abbrev both_in : Full → Both
+abbrev pub both_in : Full → Both
 both_in l = l.both
 
 abbrev full_of : Both → Node → Full
@@ -53,110 +48,33 @@ full_of l n = record { both = l; probe = n.probe; anew = n.anew }
 again_is : (l : Both) (n : Node) → again l ≡ cell_in n → again_n (full_of l n) ≡ n
 again_is l n e = ap (λ (c : Cell). record { site = c.site; old = c.old; probe = n.probe; anew = n.anew }) e
 
-full_t : (t : Tree Both) (u : Tree Node) → map_t again t ≡ map_t cell_in u → Joint both_in again_n t u
+pub full_t : (t : Tree Both) (u : Tree Node) → map_t again t ≡ map_t cell_in u → Joint both_in again_n t u
 full_t t u e = joint-T again cell_in full_of both_in again_n (λ l n _. refl) again_is t u e
 
-same_seen : (l : Full) (n : Node) → was_site l.both ≡ site_of n → old_words l ≡ n.probe → view_n was_f old_words l ≡ bare_n n
+pub same_seen : (l : Full) (n : Node) → was_site l.both ≡ site_of n → old_words l ≡ n.probe → view_n was_f old_words l ≡ bare_n n
 same_seen l n p q = go (was_site l.both) (site_of n) (old_words l) n.probe p q
   where
     go : (a b : Site) (x y : ProbeWords) → a ≡ b → x ≡ y → ◌≡◌ {A = Node} (record { site = a; old = no_row; probe = x; anew = false }) (record { site = b; old = no_row; probe = y; anew = false })
     go a b x y p q = rw (p, q)
 
-sound_kids : (j : Tree Full) (u : Tree Node) → map_t again_n j ≡ u → AllT HonestL j → LeavesT (map_t site_f j) → (q : LayoutInput) (found : Float) → RowsT was_f old_words j q found home 0 → SoundF (kids_t u)
-sound_kids (node l ks) u e h v q found r = rw (← e, map_t_node again_n l ks) (good_page l ks h v q found home 0 r)
-
-abbrev old_n : Node → Row
+abbrev pub old_n : Node → Row
 old_n n = n.old
 
-abbrev old_c : Cell → Row
+abbrev pub old_c : Cell → Row
 old_c c = c.old
 
 pub kids_map : {A B : Type 0} (f : A → B) (t : Tree A) → kids_t (map_t f t) ≡ map_f f (kids_t t)
 unfolding map_t
 kids_map f (node a ks) = refl
 
-zeros_kids : {A : Type 0} (a : A) (ks : Forest A) → kids_t (zeros_t (node a ks)) ≡ zeros_f ks
+pub zeros_kids : {A : Type 0} (a : A) (ks : Forest A) → kids_t (zeros_t (node a ks)) ≡ zeros_f ks
 unfolding zeros_t zeros_f map_t
 zeros_kids a ks = refl
 
-leaf_kids : (u : Tree Node) (q : LayoutInput) (found : Float) → is_leaf (style_t u).kind ≡ true → kids_t (lay_t u q found).rows ≡ kids_t (zeros_t u)
+pub leaf_kids : (u : Tree Node) (q : LayoutInput) (found : Float) → is_leaf (style_t u).kind ≡ true → kids_t (lay_t u q found).rows ≡ kids_t (zeros_t u)
 unfolding root_t
 leaf_kids (node n us) q found b = ap kids_t (leaf_rows n us q found b) ∙ sym (zeros_kids n us)
 
-zeros_quiet : (ts : Forest Both) → map_f probe_of (zeros_f ts) ≡ map_f (λ (_ : Both). no_probe) ts
+pub zeros_quiet : (ts : Forest Both) → map_f probe_of (zeros_f ts) ≡ map_f (λ (_ : Both). no_probe) ts
 unfolding zeros_f
 zeros_quiet ts = map_map_f probe_of (λ (_ : Both). no_row) ts ∙ ap (λ (p : ProbeWords). map_f (λ (_ : Both). p) ts) zero_words
-
--- the page as it was, laid out at q
-module _ (l : Both) (ks : Forest Both) (q : LayoutInput) where
-  abbrev was : Tree Cell
-  was = map_t before_c (node l ks)
-
-  fresh-was : fresh (map_t was_site (node l ks)) q ≡ lay_t (map_t bare_n (width_pass was q).nodes) q (width_pass was q).found
-  unfolding fresh blank
-  fresh-was = ap (λ (u : Tree Cell). relaid u q) (map_map_t blank was_site (node l ks)) ∙ bare_relaid was q (zero_unlaid was q (all-back-T before_c Zero (node l ks) (all-any-T (λ (b : Both). Zero (before_c b)) (λ _. refl) (node l ks))))
-
-  well-at : is_leaf l.was.kind ≡ false → WellT (width_pass (map_t bare_c was) q).nodes
-  well-at b = rw (map_t_node before_c l ks) (pass_well (before_c l) (map_f before_c ks) q b)
-
-  module _ (e : map_t old_of (node l ks) ≡ (fresh (map_t was_site (node l ks)) q).rows) (b : is_leaf l.was.kind ≡ false) where
-    rows_are : map_t old_of (node l ks) ≡ (lay_t (map_t bare_n (width_pass was q).nodes) q (width_pass was q).found).rows
-    rows_are = e ∙ ap (λ (x : Laid). x.rows) fresh-was
-
-    well : WellT (width_pass was q).nodes
-    well = rw (map_map_t bare_c before_c (node l ks)) at (well-at b)
-
-    words_are : map_t words_of (node l ks) ≡ map_t probe_in (width_pass was q).nodes
-    words_are = sym (map_map_t probe_of old_of (node l ks)) ∙ ap (map_t probe_of) rows_are ∙ ride_t _ well q _
-
-    seen : (j : Tree Full) → map_t both_in j ≡ node l ks → map_t (view_n was_f old_words) j ≡ map_t bare_n (width_pass was q).nodes
-    seen j f =
-        let s : map_t (λ (x : Full). was_site x.both) j ≡ map_t site_of (width_pass was q).nodes = sym (map_map_t was_site both_in j) ∙ ap (map_t was_site) f ∙ sym (sites_t was q ∙ map_map_t site_in before_c (node l ks)) in
-        let w : map_t old_words j ≡ map_t probe_in (width_pass was q).nodes = sym (map_map_t words_of both_in j) ∙ ap (map_t words_of) f ∙ words_are in
-        settle-T (λ (x : Full). was_site x.both) site_of old_words probe_in (view_n was_f old_words) bare_n same_seen j _ s w
-
-    rows-full : (j : Tree Full) → map_t both_in j ≡ node l ks → RowsT was_f old_words j q (width_pass was q).found home 0
-    rows-full j f = sym (map_map_t old_of both_in j) ∙ ap (map_t old_of) f ∙ rows_are ∙ at_home _ q _ ∙ ap (λ (u : Tree Node). on_root (put_at home 0) (lay_t u q (width_pass was q).found).rows) (sym (seen j f))
-
-    block-sound : (p : LayoutInput) → AllT Honest (node l ks) → LeavesT (map_t now_site (node l ks)) → SoundF (kids_t (width_pass (map_t again (node l ks)) p).nodes)
-    block-sound p h v =
-        let j = full_t (node l ks) (width_pass (map_t again (node l ks)) p).nodes (sym (pass_cells (map_t again (node l ks)) p)) in
-        let h1 : AllT Honest (map_t both_in j.tree) = rw j.left h in
-        let v1 : LeavesT (map_t site_f j.tree) = rw (← map_map_t now_site both_in j.tree, j.left) v in
-        sound_kids j.tree _ j.right (all-map-T both_in Honest j.tree h1) v1 q _ (rows-full j.tree j.left)
-
-    block-true : AllT Honest (node l ks) → TrueF (map_f again ks)
-    block-true h = pass_true l ks q h words_are
-
-  -- a root that was a leaf has rows of zeros below
-  module _ (e : map_t old_of (node l ks) ≡ (fresh (map_t was_site (node l ks)) q).rows) (b : is_leaf l.was.kind ≡ true) where
-    leaf-style : is_leaf (style_t (map_t bare_n (width_pass was q).nodes)).kind ≡ true
-    leaf-style = ap (λ (n : Node). is_leaf n.site.style.kind) (root_t_map bare_n (width_pass was q).nodes) ∙ ap (λ (s : Site). is_leaf s.style.kind) (sym (root_t_map site_of (width_pass was q).nodes) ∙ ap root_t (sites_t was q ∙ map_map_t site_in before_c (node l ks) ∙ map_t_node was_site l ks) ∙ root_t_node (was_site l) _) ∙ b
-
-    all-zeros : zeros_t (map_t bare_n (width_pass was q).nodes) ≡ zeros_t (node l ks)
-    all-zeros = zeros_t_lem bare_n _ ∙ sym (zeros_t_lem cell_in (width_pass was q).nodes) ∙ ap zeros_t (pass_cells was q) ∙ zeros_t_lem before_c (node l ks)
-
-    zeros-are : map_f old_of ks ≡ zeros_f ks
-    zeros-are =
-        ap kids_t (sym (map_t_node old_of l ks) ∙ e ∙ ap (λ (x : Laid). x.rows) fresh-was) ∙ leaf_kids _ q _ leaf-style ∙ ap kids_t all-zeros ∙ zeros_kids l ks
-
-    leaf-true : TrueF (map_f again ks)
-    leaf-true = quiet_f ks (sym (map_map_f probe_of old_of ks) ∙ ap (map_f probe_of) zeros-are ∙ zeros_quiet ks)
-
-    leaf-sound : (p : LayoutInput) → SoundF (kids_t (width_pass (map_t again (node l ks)) p).nodes)
-    leaf-sound p =
-        let n = (width_pass (map_t again (node l ks)) p).nodes in
-        let o : map_f old_n (kids_t n) ≡ zeros_f ks = sym (kids_map old_n n) ∙ ap kids_t (sym (map_map_t old_c cell_in n) ∙ ap (map_t old_c) (pass_cells (map_t again (node l ks)) p) ∙ map_map_t old_c again (node l ks) ∙ map_t_node old_of l ks) ∙ zeros-are in
-        let z : AllF Off (map_f old_n (kids_t n)) = rw o (off_zeros_f ks) in
-        unlaid_f _ (all-map-F old_n Off (kids_t n) z)
-
--- Relayout is fresh.
-pub relayout_fresh : (t : Tree Both) (q p : LayoutInput) → map_t old_of t ≡ (fresh (map_t was_site t) q).rows → AllT Honest t → LeavesT (map_t now_site t) → relaid (map_t again t) p ≡ fresh (map_t now_site t) p
-relayout_fresh (node l ks) q p e h v = rw (← map_map_t site_in again (node l ks), ← fresh_bare (map_t again (node l ks)) p) (go (is_leaf l.was.kind) refl)
-  where
-    true-kids : TrueF (map_f again ks) → TrueF (kids_t (map_t again (node l ks)))
-    true-kids z = rw (kids_map again (node l ks)) z
-
-    go : (b : Bool) → is_leaf l.was.kind ≡ b → relaid (map_t again (node l ks)) p ≡ relaid (map_t bare_c (map_t again (node l ks))) p
-    go true b = sound_relaid (map_t again (node l ks)) p (true-kids (leaf-true l ks q e b)) (leaf-sound l ks q e b p)
-    go false b = sound_relaid (map_t again (node l ks)) p (true-kids (block-true l ks q e b h)) (block-sound l ks q e b p h v)

@@ -1,7 +1,7 @@
 -- Fractions inside a shrunk page (request 4). Step E as it was: children's numbers resolved once, against the known width less insets, else without basis. Where the
 -- root's width is known the final pass leaves the same as before, for any old rows: only a page that shrinks to fit differs.
 use Rattle.std.specs.Prelude.{◌≡◌, refl, Bool, true, false, Float}
-use Rattle.std.proofs.Common.{sym, ap, ◌∙◌}
+use Rattle.std.proofs.Common.{ap, ◌∙◌}
 use Rattle.geometry.specs.Geometry.{zero_f, across}
 use Rattle.util.specs.Maybe.{is_some, unwrap_or, or_else, floor_opt, sub_opt}
 use Rattle.util.specs.declared.OptionF32.{OptionF32}
@@ -20,13 +20,13 @@ use Rattle.steps.specs.Stack.{inner_width, start_of, offset_by, item_of, child_i
 use Rattle.steps.specs.Page.{Cell, Node}
 use Rattle.steps.specs.Probe.{width_pass}
 use Rattle.steps.specs.Kept.{Laid, kept, keep}
-use Rattle.steps.specs.Layout.{Stacked, leaf_laid, block_laid, skip, aside, place, lay_t, lay_f, ask_t, relaid}
+use Rattle.steps.specs.Layout.{Stacked, leaf_laid, block_laid, skip, aside, place, lay_t, ask_t}
 use Rattle.steps.specs.declared.LayoutInput.{LayoutInput}
 use Rattle.steps.specs.declared.Sizing.{Sizing}
 use Rattle.steps.specs.declared.Frame.{Frame}
 use Rattle.steps.specs.declared.Cursor.{Cursor}
 use Rattle.steps.specs.declared.BlockItem.{BlockItem}
-use Rattle.steps.proofs.Clauses.{style_t, by_test, by_flow, lay_t_leaf, lay_t_block, lay_f_none, lay_f_gone, lay_f_out, lay_f_in}
+use Rattle.steps.proofs.Clauses.{style_t, by_test, by_flow}
 
 -- ---- as it was: known width less insets, else no basis
 unfoldable pub basis_once : Style → LayoutInput → OptionF32
@@ -92,21 +92,21 @@ inner_is : (f : Frame) → sub_opt (Some f.width) (across f.inset) ≡ Some (inn
 unfolding sub_opt inner_width
 inner_is f = refl
 
-once_is : (s : Style) (q : LayoutInput) (found : Float) → KnownWidth s q → basis_once s q ≡ Some (inner_width (frame_of s q found))
+pub once_is : (s : Style) (q : LayoutInput) (found : Float) → KnownWidth s q → basis_once s q ≡ Some (inner_width (frame_of s q found))
 unfolding basis_once frame_of step_i
 once_is s q found e =
     let z = sizing_of s q.parent q.basis in
     less_is (known_of s z q.known).width found (across (insets s z.both)) e ∙ inner_is (frame_of s q found)
 
-item_is : (f : Frame) (s : Style) → item_once f (Some (inner_width f)) s ≡ item_of f s
+pub item_is : (f : Frame) (s : Style) → item_once f (Some (inner_width f)) s ≡ item_of f s
 unfolding item_once item_of
 item_is f s = refl
 
-question_is : (f : Frame) (s : Style) → question_to f s ≡ child_input f s (item_of f s)
+pub question_is : (f : Frame) (s : Style) → question_to f s ≡ child_input f s (item_of f s)
 unfolding question_to
 question_is f s = refl
 
-place_is : (f : Frame) (c : Cursor) (s : Style) (a : Laid) (rest : Cursor → Stacked) → place_once f (item_of f s) c a rest ≡ place f c s a rest
+pub place_is : (f : Frame) (c : Cursor) (s : Style) (a : Laid) (rest : Cursor → Stacked) → place_once f (item_of f s) c a rest ≡ place f c s a rest
 unfolding place_once place
 place_is f c s a rest = refl
 
@@ -115,12 +115,12 @@ asked_known : (s : Style) (z : Sizing) (k : OptionSize) (w : Float) → k.width 
 unfolding known_of step_d filled step_b known_axis or_else floor_opt is_some
 asked_known s z k w e = rw e
 
-child_known : (f : Frame) (s : Style) → KnownWidth s (question_to f s)
+pub child_known : (f : Frame) (s : Style) → KnownWidth s (question_to f s)
 unfolding question_to child_input
 child_known f s = asked_known s _ _ _ refl
 
 -- ---- the clauses, and the passes
-abbrev box_once : Node → Forest Node → LayoutInput → Float → Laid
+abbrev pub box_once : Node → Forest Node → LayoutInput → Float → Laid
 box_once l ks q found =
     block_laid l q (frame_of l.site.style q found) (once_f ks (frame_of l.site.style q found) (basis_once l.site.style q) (start_of (frame_of l.site.style q found)))
 
@@ -128,74 +128,39 @@ once_t_by : (l : Node) (ks : Forest Node) (q : LayoutInput) (found : Float) → 
 unfolding once_t
 once_t_by l ks q found = refl
 
-once_t_at : (l : Node) (ks : Forest Node) (q : LayoutInput) (found : Float) (b : Bool) → is_leaf l.site.style.kind ≡ b → once_t (node l ks) q found ≡ by_test b (leaf_laid l q ks) (box_once l ks q found)
+pub once_t_at : (l : Node) (ks : Forest Node) (q : LayoutInput) (found : Float) (b : Bool) → is_leaf l.site.style.kind ≡ b → once_t (node l ks) q found ≡ by_test b (leaf_laid l q ks) (box_once l ks q found)
 once_t_at l ks q found b e = once_t_by l ks q found ∙ ap (λ (v : Bool). by_test v (leaf_laid l q ks) (box_once l ks q found)) e
 
-abbrev ask_once : Tree Node → LayoutInput → Laid
+abbrev pub ask_once : Tree Node → LayoutInput → Laid
 ask_once t q = by_test (kept t q) (keep t) (once_t t q zero_f)
 
-abbrev step_once : Tree Node → Forest Node → Frame → OptionF32 → Cursor → Stacked
+abbrev pub step_once : Tree Node → Forest Node → Frame → OptionF32 → Cursor → Stacked
 step_once t ts f b c = place_once f (item_once f b (style_t t)) c (ask_once t (question_once f b (style_t t))) (once_f ts f b)
 
 once_f_by : (t : Tree Node) (ts : Forest Node) (f : Frame) (b : OptionF32) (c : Cursor) → once_f (more t ts) f b c ≡ by_flow (flow_of (style_t t)) (skip c t (once_f ts f b)) (aside f c t (once_f ts f b)) (step_once t ts f b c)
 unfolding once_f
 once_f_by t ts f b c = refl
 
-once_f_at : (t : Tree Node) (ts : Forest Node) (f : Frame) (b : OptionF32) (c : Cursor) (w : Flow) → flow_of (style_t t) ≡ w
+pub once_f_at : (t : Tree Node) (ts : Forest Node) (f : Frame) (b : OptionF32) (c : Cursor) (w : Flow) → flow_of (style_t t) ≡ w
     → once_f (more t ts) f b c ≡ by_flow w (skip c t (once_f ts f b)) (aside f c t (once_f ts f b)) (step_once t ts f b c)
 once_f_at t ts f b c w e = once_f_by t ts f b c ∙ ap (λ (v : Flow). by_flow v (skip c t (once_f ts f b)) (aside f c t (once_f ts f b)) (step_once t ts f b c)) e
 
-once_f_none : (f : Frame) (b : OptionF32) (c : Cursor) → once_f none f b c ≡ record { last = c; rows = none }
+pub once_f_none : (f : Frame) (b : OptionF32) (c : Cursor) → once_f none f b c ≡ record { last = c; rows = none }
 unfolding once_f
 once_f_none f b c = refl
 
-node_same : (l : Node) (ks : Forest Node) (q : LayoutInput) (found : Float) → KnownWidth l.site.style q → ((f : Frame) (c : Cursor) → once_f ks f (Some (inner_width f)) c ≡ lay_f ks f c) → once_t (node l ks) q found ≡ lay_t (node l ks) q found
-node_same l ks q found p h = go (is_leaf l.site.style.kind) refl
-  where
-    go : (b : Bool) → is_leaf l.site.style.kind ≡ b → once_t (node l ks) q found ≡ lay_t (node l ks) q found
-    go true e = once_t_at l ks q found true e ∙ sym (lay_t_leaf l ks q found e)
-    go false e =
-        let f : Frame = frame_of l.site.style q found in
-        once_t_at l ks q found false e ∙ rw (once_is l.site.style q found p, h f (start_of f)) (sym (lay_t_block l ks q found e))
-
-ask_same : (t : Tree Node) (q : LayoutInput) → once_t t q zero_f ≡ lay_t t q zero_f → ask_once t q ≡ ask_t t q
+pub ask_same : (t : Tree Node) (q : LayoutInput) → once_t t q zero_f ≡ lay_t t q zero_f → ask_once t q ≡ ask_t t q
 unfolding ask_t
 ask_same t q e = ap (by_test (kept t q) (keep t)) e
 
-skip_same : (c : Cursor) (t : Tree Node) (g h : Cursor → Stacked) → ((d : Cursor) → g d ≡ h d) → skip c t g ≡ skip c t h
+pub skip_same : (c : Cursor) (t : Tree Node) (g h : Cursor → Stacked) → ((d : Cursor) → g d ≡ h d) → skip c t g ≡ skip c t h
 unfolding skip
 skip_same c t g h e = rw (e _)
 
-aside_same : (f : Frame) (c : Cursor) (t : Tree Node) (g h : Cursor → Stacked) → ((d : Cursor) → g d ≡ h d) → aside f c t g ≡ aside f c t h
+pub aside_same : (f : Frame) (c : Cursor) (t : Tree Node) (g h : Cursor → Stacked) → ((d : Cursor) → g d ≡ h d) → aside f c t g ≡ aside f c t h
 unfolding aside
 aside_same f c t g h e = rw (e _)
 
-place_same : (f : Frame) (c : Cursor) (s : Style) (a b : Laid) (g h : Cursor → Stacked) → a ≡ b → ((d : Cursor) → g d ≡ h d) → place f c s a g ≡ place f c s b h
+pub place_same : (f : Frame) (c : Cursor) (s : Style) (a b : Laid) (g h : Cursor → Stacked) → a ≡ b → ((d : Cursor) → g d ≡ h d) → place f c s a g ≡ place f c s b h
 unfolding place
 place_same f c s a b g h x e = rw (x, e _)
-
-more_same : (t : Tree Node) (ts : Forest Node) (f : Frame) (c : Cursor) → ((q : LayoutInput) → KnownWidth (style_t t) q → once_t t q zero_f ≡ lay_t t q zero_f) → ((d : Cursor) → once_f ts f (Some (inner_width f)) d ≡ lay_f ts f d)
-    → once_f (more t ts) f (Some (inner_width f)) c ≡ lay_f (more t ts) f c
-more_same t ts f c h k = go (flow_of (style_t t)) refl
-  where
-    go : (w : Flow) → flow_of (style_t t) ≡ w → once_f (more t ts) f (Some (inner_width f)) c ≡ lay_f (more t ts) f c
-    go Gone e = once_f_at t ts f (Some (inner_width f)) c Gone e ∙ skip_same c t _ _ k ∙ sym (lay_f_gone t ts f c e)
-    go Out e = once_f_at t ts f (Some (inner_width f)) c Out e ∙ aside_same f c t _ _ k ∙ sym (lay_f_out t ts f c e)
-    go In e =
-        once_f_at t ts f (Some (inner_width f)) c In e ∙ rw (item_is f (style_t t), ← question_is f (style_t t)) (place_is f c (style_t t) _ _)
-        ∙ place_same f c (style_t t) _ _ _ _ (ask_same t (question_to f (style_t t)) (h (question_to f (style_t t)) (child_known f (style_t t)))) k ∙ sym (lay_f_in t ts f c e)
-
-mutual
-  unfolding root_t
-
-  same_t : (t : Tree Node) (q : LayoutInput) (found : Float) → KnownWidth (style_t t) q → once_t t q found ≡ lay_t t q found
-  same_t (node l ks) q found p = node_same l ks q found p (λ f c. same_f_lem ks f c)
-
-  same_f_lem : (ts : Forest Node) (f : Frame) (c : Cursor) → once_f ts f (Some (inner_width f)) c ≡ lay_f ts f c
-  same_f_lem none f c = once_f_none f (Some (inner_width f)) c ∙ sym (lay_f_none f c)
-  same_f_lem (more t ts) f c = more_same t ts f c (λ q p. same_t t q zero_f p) (λ d. same_f_lem ts f d)
-
--- ---- A page whose root has a known width is laid out and relaid as before.
-pub known_width_as_before : (t : Tree Cell) (q : LayoutInput) → KnownWidth (style_t (width_pass t q).nodes) q → relaid_once t q ≡ relaid t q
-unfolding relaid_once relaid
-known_width_as_before t q h = same_t (width_pass t q).nodes q (width_pass t q).found h

@@ -13,23 +13,23 @@ use Rattle.style.specs.Flow.{is_leaf, flow_of}
 use Rattle.style.specs.declared.Flow.{Flow}
 use Rattle.style.specs.declared.Flow.TheVariants.{Gone, Out, In}
 use Rattle.style.specs.declared.Style.{Style}
-use Rattle.tree.specs.Tree.{Tree, Forest, node, none, more, map_t, root_t}
+use Rattle.tree.specs.Tree.{Tree, Forest, node, none, more, root_t}
 use Rattle.steps.specs.Sizing.{sizing_of, sized_by, known_of, insets}
 use Rattle.steps.specs.HeightBasis.{basis_below}
 use Rattle.steps.specs.Through.{hollow_box}
-use Rattle.steps.specs.Edges.{adjoins, own_end_of, step_i, frame_of}
+use Rattle.steps.specs.Edges.{adjoins, own_end_of, step_i}
 use Rattle.steps.specs.Stack.{start_of, child_input, question_to}
-use Rattle.steps.specs.Page.{Site, Cell, Node, blank}
+use Rattle.steps.specs.Page.{Cell, Node}
 use Rattle.steps.specs.Question.{root_input}
 use Rattle.steps.specs.Probe.{width_pass}
 use Rattle.steps.specs.Kept.{Laid, kept, keep}
-use Rattle.steps.specs.Layout.{Stacked, leaf_laid, block_laid, skip, aside, place, lay_t, lay_f, ask_t, relaid, fresh}
+use Rattle.steps.specs.Layout.{Stacked, leaf_laid, block_laid, skip, aside, place, lay_t, lay_f, ask_t}
 use Rattle.steps.specs.declared.LayoutInput.{LayoutInput}
 use Rattle.steps.specs.declared.Question.{Question}
 use Rattle.steps.specs.declared.Sizing.{Sizing}
 use Rattle.steps.specs.declared.Frame.{Frame}
 use Rattle.steps.specs.declared.Cursor.{Cursor}
-use Rattle.steps.proofs.Clauses.{style_t, by_test, by_flow, lay_t_leaf, lay_t_block, lay_f_none, lay_f_gone, lay_f_out, lay_f_in}
+use Rattle.steps.proofs.Clauses.{style_t, by_test, by_flow, lay_f_gone, lay_f_out, lay_f_in}
 
 -- ---- as it was. H: the basis is the parent width, else the own width
 abbrev pub basis_again : OptionF32 → Float → OptionF32
@@ -97,44 +97,28 @@ pub child_parent : (f : Frame) (s : Style) → is_some (question_to f s).parent 
 unfolding question_to child_input is_some
 child_parent f s = refl
 
-same_basis : (p : OptionF32) (w : Float) → is_some p ≡ true → basis_again p w ≡ p
+pub same_basis : (p : OptionF32) (w : Float) → is_some p ≡ true → basis_again p w ≡ p
 unfolding is_some unwrap_or
 same_basis None w e = cc
 same_basis (Some x) w e = refl
 
--- ---- so H gives A's padding and border
-pub h_gives_padding : (s : Style) (q : LayoutInput) (w : Float) → is_some q.parent ≡ true → resolved_rect s.padding (basis_again q.parent w) ≡ (sizing_of s q.parent q.basis).padding
-unfolding sizing_of sized_by
-h_gives_padding s q w e = ap (resolved_rect s.padding) (same_basis q.parent w e)
-
-pub h_gives_border : (s : Style) (q : LayoutInput) (w : Float) → is_some q.parent ≡ true → resolved_rect s.border (basis_again q.parent w) ≡ (sizing_of s q.parent q.basis).border
-unfolding sizing_of sized_by
-h_gives_border s q w e = ap (resolved_rect s.border) (same_basis q.parent w e)
-
-both_is : (s : Style) (b h : OptionF32) → (sizing_of s b h).both ≡ plus (sizing_of s b h).padding (sizing_of s b h).border
+pub both_is : (s : Style) (b h : OptionF32) → (sizing_of s b h).both ≡ plus (sizing_of s b h).padding (sizing_of s b h).border
 unfolding sizing_of sized_by
 both_is s b h = refl
 
-step_same : (s : Style) (q : LayoutInput) (z : Sizing) (k : OptionSize) (w : Float) → z.both ≡ plus z.padding z.border → step_i_again s q z k w z.padding z.border ≡ step_i s q z k w
+pub step_same : (s : Style) (q : LayoutInput) (z : Sizing) (k : OptionSize) (w : Float) → z.both ≡ plus z.padding z.border → step_i_again s q z k w z.padding z.border ≡ step_i s q z k w
 unfolding step_i_again step_i
 step_same s q z k w e = rw (← e)
 
-frame_same : (s : Style) (q : LayoutInput) (found : Float) → is_some q.parent ≡ true → frame_again s q found ≡ frame_of s q found
-unfolding frame_again frame_of
-frame_same s q found e =
-    let z = sizing_of s q.parent q.basis in
-    let w = unwrap_or (known_of s z q.known).width found in
-    rw (h_gives_padding s q w e, h_gives_border s q w e) (step_same s q z (known_of s z q.known) w (both_is s q.parent q.basis))
-
 -- ---- the clauses, and the passes
-abbrev box_again : Node → Forest Node → LayoutInput → Float → Laid
+abbrev pub box_again : Node → Forest Node → LayoutInput → Float → Laid
 box_again l ks q found = block_laid l q (frame_again l.site.style q found) (again_f ks (frame_again l.site.style q found) (start_of (frame_again l.site.style q found)))
 
 again_t_by : (l : Node) (ks : Forest Node) (q : LayoutInput) (found : Float) → again_t (node l ks) q found ≡ by_test (is_leaf l.site.style.kind) (leaf_laid l q ks) (box_again l ks q found)
 unfolding again_t
 again_t_by l ks q found = refl
 
-again_t_at : (l : Node) (ks : Forest Node) (q : LayoutInput) (found : Float) (b : Bool) → is_leaf l.site.style.kind ≡ b → again_t (node l ks) q found ≡ by_test b (leaf_laid l q ks) (box_again l ks q found)
+pub again_t_at : (l : Node) (ks : Forest Node) (q : LayoutInput) (found : Float) (b : Bool) → is_leaf l.site.style.kind ≡ b → again_t (node l ks) q found ≡ by_test b (leaf_laid l q ks) (box_again l ks q found)
 again_t_at l ks q found b e = again_t_by l ks q found ∙ ap (λ (v : Bool). by_test v (leaf_laid l q ks) (box_again l ks q found)) e
 
 abbrev ask_again : Tree Node → LayoutInput → Laid
@@ -150,18 +134,9 @@ again_f_by t ts f c = refl
 again_f_at : (t : Tree Node) (ts : Forest Node) (f : Frame) (c : Cursor) (w : Flow) → flow_of (style_t t) ≡ w → again_f (more t ts) f c ≡ by_flow w (skip c t (again_f ts f)) (aside f c t (again_f ts f)) (place_again t ts f c)
 again_f_at t ts f c w e = again_f_by t ts f c ∙ ap (λ (v : Flow). by_flow v (skip c t (again_f ts f)) (aside f c t (again_f ts f)) (place_again t ts f c)) e
 
-again_f_none : (f : Frame) (c : Cursor) → again_f none f c ≡ record { last = c; rows = none }
+pub again_f_none : (f : Frame) (c : Cursor) → again_f none f c ≡ record { last = c; rows = none }
 unfolding again_f
 again_f_none f c = refl
-
-node_same : (l : Node) (ks : Forest Node) (q : LayoutInput) (found : Float) → is_some q.parent ≡ true → ((f : Frame) (c : Cursor) → again_f ks f c ≡ lay_f ks f c) → again_t (node l ks) q found ≡ lay_t (node l ks) q found
-node_same l ks q found p h = go (is_leaf l.site.style.kind) refl
-  where
-    go : (b : Bool) → is_leaf l.site.style.kind ≡ b → again_t (node l ks) q found ≡ lay_t (node l ks) q found
-    go true e = again_t_at l ks q found true e ∙ sym (lay_t_leaf l ks q found e)
-    go false e =
-        let f : Frame = frame_of l.site.style q found in
-        again_t_at l ks q found false e ∙ rw (frame_same l.site.style q found p, h f (start_of f)) (sym (lay_t_block l ks q found e))
 
 ask_same : (t : Tree Node) (q : LayoutInput) → again_t t q zero_f ≡ lay_t t q zero_f → ask_again t q ≡ ask_t t q
 unfolding ask_t
@@ -179,27 +154,10 @@ place_same : (f : Frame) (c : Cursor) (s : Style) (a b : Laid) (g h : Cursor →
 unfolding place
 place_same f c s a b g h x e = rw (x, e _)
 
-more_same : (t : Tree Node) (ts : Forest Node) (f : Frame) (c : Cursor) → ((q : LayoutInput) → is_some q.parent ≡ true → again_t t q zero_f ≡ lay_t t q zero_f) → ((d : Cursor) → again_f ts f d ≡ lay_f ts f d) → again_f (more t ts) f c ≡ lay_f (more t ts) f c
+pub more_same : (t : Tree Node) (ts : Forest Node) (f : Frame) (c : Cursor) → ((q : LayoutInput) → is_some q.parent ≡ true → again_t t q zero_f ≡ lay_t t q zero_f) → ((d : Cursor) → again_f ts f d ≡ lay_f ts f d) → again_f (more t ts) f c ≡ lay_f (more t ts) f c
 more_same t ts f c h k = go (flow_of (style_t t)) refl
   where
     go : (w : Flow) → flow_of (style_t t) ≡ w → again_f (more t ts) f c ≡ lay_f (more t ts) f c
     go Gone e = again_f_at t ts f c Gone e ∙ skip_same c t _ _ k ∙ sym (lay_f_gone t ts f c e)
     go Out e = again_f_at t ts f c Out e ∙ aside_same f c t _ _ k ∙ sym (lay_f_out t ts f c e)
     go In e = again_f_at t ts f c In e ∙ place_same f c (style_t t) _ _ _ _ (ask_same t (question_to f (style_t t)) (h (question_to f (style_t t)) (child_parent f (style_t t)))) k ∙ sym (lay_f_in t ts f c e)
-
-mutual
-  same_t : (t : Tree Node) (q : LayoutInput) (found : Float) → is_some q.parent ≡ true → again_t t q found ≡ lay_t t q found
-  same_t (node l ks) q found p = node_same l ks q found p (λ f c. same_f_lem ks f c)
-
-  same_f_lem : (ts : Forest Node) (f : Frame) (c : Cursor) → again_f ts f c ≡ lay_f ts f c
-  same_f_lem none f c = again_f_none f c ∙ sym (lay_f_none f c)
-  same_f_lem (more t ts) f c = more_same t ts f c (λ q p. same_t t q zero_f p) (λ d. same_f_lem ts f d)
-
--- ---- With H or without it: one answer and the same rows, for every page, question and old rows.
-pub h_changes_nothing : (t : Tree Cell) (q : Question) → relaid_again t (root_input q) ≡ relaid t (root_input q)
-unfolding relaid_again relaid
-h_changes_nothing t q = same_t (width_pass t (root_input q)).nodes (root_input q) (width_pass t (root_input q)).found (root_parent q)
-
-pub fresh_without_h : (t : Tree Site) (q : Question) → relaid_again (map_t blank t) (root_input q) ≡ fresh t (root_input q)
-unfolding fresh
-fresh_without_h t q = h_changes_nothing (map_t blank t) q

@@ -40,7 +40,8 @@ use Rattle.tables.proofs.Passing.{sized}
 use Rattle.tables.proofs.GoodPage.{site_leaf}
 use Rattle.tables.proofs.ScanLaws.{never, some_is, nowhere-lowest}
 use Rattle.tables.proofs.Exactly.{layout-exactly}
-use Rattle.laws.specs.AskOnce.{size_is_laid, root_laid}
+use Rattle.laws.specs.AskOnce.{root_laid}
+use Rattle.laws.proofs.AskOnce.{size_is_laid}
 use Rattle.layout.specs.Public.{Replied}
 use Rattle.measure.specs.Public.{SizeReplied}
 use Rattle.asked.specs.Question.{plain_question, axis_of}

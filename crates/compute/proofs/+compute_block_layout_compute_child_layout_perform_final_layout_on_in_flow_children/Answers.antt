@@ -117,10 +117,10 @@ pub compute_block_layout-perform_final_layout_on_in_flow_children-stack-requires
 compute_block_layout-perform_final_layout_on_in_flow_children-stack-requires t c = (omega (arith, c.decreases), c.requires)
 
 pub compute_block_layout-finish-requires : goal.compute_block_layout-finish-requires
-compute_block_layout-finish-requires t c = let plain : c.is_leaf.result ≡ false → is_leaf (style_at c.args.words.now 0 c.args.numbers.now c.args.base).kind ≡ false = λ left. let s = c.before.before.before.before.before.before.before.before.before.before.before.before.before.before.before.before.before in ap is_leaf (sym (kind_at s.args.words.now s.args.numbers.now s.args.base)) ∙ sym c.is_leaf.ensures ∙ left in is_block c.args.words.now c.args.numbers.now c.args.rows.now c.args.marks.now c.args.edits.now c.args.base c.args.input c.args.found _ _ _ _ _ refl (plain c.if-is_leaf.false) c.frame_at-frame.ensures c.perform_final_layout_on_in_flow_children-stack.ensures c.args.depth c.requires
+compute_block_layout-finish-requires t c = let plain : c.is_leaf.result ≡ false → is_leaf (style_at c.args.words.now 0 c.args.numbers.now c.args.base).kind ≡ false = λ left. ap is_leaf (sym (kind_at c.args.words.now c.args.numbers.now c.args.base)) ∙ sym c.is_leaf.ensures ∙ left in is_block c.args.words.now c.args.numbers.now c.args.rows.now c.args.marks.now c.args.edits.now c.args.base c.args.input c.args.found _ _ _ _ _ refl (plain c.if-is_leaf.false) c.frame_at-frame.ensures c.perform_final_layout_on_in_flow_children-stack.ensures c.args.depth c.requires
 
 pub compute_block_layout-returns : goal.compute_block_layout-returns
-compute_block_layout-returns t c = let plain : c.is_leaf.result ≡ false → is_leaf (style_at c.args.words.now 0 c.args.numbers.now c.args.base).kind ≡ false = λ left. let s = c.before.before.before.before.before.before.before.before.before.before.before.before.before.before.before.before.before.before.before.before.before.before in ap is_leaf (sym (kind_at s.args.words.now s.args.numbers.now s.args.base)) ∙ sym c.is_leaf.ensures ∙ left in block-laid c.args.words.now c.args.numbers.now c.args.rows.now c.args.marks.now c.args.edits.now c.args.base c.args.input c.args.found _ _ _ _ _ refl (plain c.if-is_leaf.false) c.frame_at-frame.ensures c.perform_final_layout_on_in_flow_children-stack.ensures _ _ _ c.finish.ensures
+compute_block_layout-returns t c = let plain : c.is_leaf.result ≡ false → is_leaf (style_at c.args.words.now 0 c.args.numbers.now c.args.base).kind ≡ false = λ left. ap is_leaf (sym (kind_at c.args.words.now c.args.numbers.now c.args.base)) ∙ sym c.is_leaf.ensures ∙ left in block-laid c.args.words.now c.args.numbers.now c.args.rows.now c.args.marks.now c.args.edits.now c.args.base c.args.input c.args.found _ _ _ _ _ refl (plain c.if-is_leaf.false) c.frame_at-frame.ensures c.perform_final_layout_on_in_flow_children-stack.ensures _ _ _ c.finish.ensures
 
 pub perform_final_layout_on_in_flow_children-overflow_cast-end : goal.perform_final_layout_on_in_flow_children-overflow_cast-end
 perform_final_layout_on_in_flow_children-overflow_cast-end t c = let next : ℕ = c.loop-child.child + c.word_in.result in let given : Facts c.args.words.now c.args.numbers.now c.args.rows.now c.args.marks.now c.args.edits.now c.args.base c.args.depth = facts _ _ _ _ _ _ _ c.requires in let Tabled : Tree Cell → Type 0 = λ k. TabledT c.args.words.now c.args.numbers.now c.args.rows.now c.args.marks.now c.args.edits.now c.args.base k in let turning : (k : Tree Cell) → Tabled k → Turn c.args.words.now c.args.numbers.now c.loop-child.rows c.loop-child.marks c.args.edits.now c.args.base c.args.frame k c.loop-child.cursor c.loop-child.child (next) = λ k h. turn _ _ _ _ _ _ _ k _ _ _ (ap (λ (n : ℕ). c.loop-child.child + n) c.word_in.ensures) (c.loop-child.invariant.4 k h) c.loop-child-test.true in let turned : Turn c.args.words.now c.args.numbers.now c.loop-child.rows c.loop-child.marks c.args.edits.now c.args.base c.args.frame c.requires.tree c.loop-child.cursor c.loop-child.child (next) = turning c.requires.tree c.requires.tabled in let f = turned in let g = given in omega arith
@@ -186,7 +186,7 @@ pub perform_final_layout_on_in_flow_children-slice_bounds-pass_hidden-end-in-Gon
 perform_final_layout_on_in_flow_children-slice_bounds-pass_hidden-end-in-Gone t c = let next : ℕ = c.loop-child.child + c.word_in.result in let given : Facts c.args.words.now c.args.numbers.now c.args.rows.now c.args.marks.now c.args.edits.now c.args.base c.args.depth = facts _ _ _ _ _ _ _ c.requires in let Tabled : Tree Cell → Type 0 = λ k. TabledT c.args.words.now c.args.numbers.now c.args.rows.now c.args.marks.now c.args.edits.now c.args.base k in let turning : (k : Tree Cell) → Tabled k → Turn c.args.words.now c.args.numbers.now c.loop-child.rows c.loop-child.marks c.args.edits.now c.args.base c.args.frame k c.loop-child.cursor c.loop-child.child (next) = λ k h. turn _ _ _ _ _ _ _ k _ _ _ (ap (λ (n : ℕ). c.loop-child.child + n) c.word_in.ensures) (c.loop-child.invariant.4 k h) c.loop-child-test.true in let turned : Turn c.args.words.now c.args.numbers.now c.loop-child.rows c.loop-child.marks c.args.edits.now c.args.base c.args.frame c.requires.tree c.loop-child.cursor c.loop-child.child (next) = turning c.requires.tree c.requires.tabled in let f = turned in let g = given in omega arith
 
 pub perform_final_layout_on_in_flow_children-pass_hidden-cursor-requires : goal.perform_final_layout_on_in_flow_children-pass_hidden-cursor-requires
-perform_final_layout_on_in_flow_children-pass_hidden-cursor-requires t c = let next : ℕ = c.loop-child.child + c.word_in.result in let given : Facts c.args.words.now c.args.numbers.now c.args.rows.now c.args.marks.now c.args.edits.now c.args.base c.args.depth = facts _ _ _ _ _ _ _ c.requires in let Tabled : Tree Cell → Type 0 = λ k. TabledT c.args.words.now c.args.numbers.now c.args.rows.now c.args.marks.now c.args.edits.now c.args.base k in let turning : (k : Tree Cell) → Tabled k → Turn c.args.words.now c.args.numbers.now c.loop-child.rows c.loop-child.marks c.args.edits.now c.args.base c.args.frame k c.loop-child.cursor c.loop-child.child (next) = λ k h. turn _ _ _ _ _ _ _ k _ _ _ (ap (λ (n : ℕ). c.loop-child.child + n) c.word_in.ensures) (c.loop-child.invariant.4 k h) c.loop-child-test.true in let turned : Turn c.args.words.now c.args.numbers.now c.loop-child.rows c.loop-child.marks c.args.edits.now c.args.base c.args.frame c.requires.tree c.loop-child.cursor c.loop-child.child (next) = turning c.requires.tree c.requires.tabled in let its-words : List ℕ = take (4 * next - 4 * c.loop-child.child) (drop (4 * c.loop-child.child) c.args.words.now) in let its-rows : List Float = take (16 * next - 16 * c.loop-child.child) (drop (16 * c.loop-child.child) c.loop-child.rows) in let its-marks : List ℕ = take (2 * next - 2 * c.loop-child.child) (drop (2 * c.loop-child.child) c.loop-child.marks) in let child : IsTree (its-words) c.args.numbers.now (its-rows) (its-marks) c.args.edits.now (c.args.base + c.loop-child.child) (c.args.depth - 1) = let f = turned in let w = c.requires.fit in let u = c.requires.reach in let v = c.requires.tabled.words_long in record { tree = f.tree; tabled = f.tabled; deep = f.shallow c.args.depth c.requires.deep; fit = omega arith; reach = omega arith } in let counts : Counts c.loop-child.cursor = let f = turned in let g = given in let i = c.loop-child.invariant in record { shown = omega (arith, i.3.1); count = omega (arith, i.3.0) } in ((facts _ _ _ _ _ _ _ (child)).room, counts)
+perform_final_layout_on_in_flow_children-pass_hidden-cursor-requires t c = let next : ℕ = c.loop-child.child + c.word_in.result in let given : Facts c.args.words.now c.args.numbers.now c.args.rows.now c.args.marks.now c.args.edits.now c.args.base c.args.depth = facts _ _ _ _ _ _ _ c.requires in let Tabled : Tree Cell → Type 0 = λ k. TabledT c.args.words.now c.args.numbers.now c.args.rows.now c.args.marks.now c.args.edits.now c.args.base k in let turning : (k : Tree Cell) → Tabled k → Turn c.args.words.now c.args.numbers.now c.loop-child.rows c.loop-child.marks c.args.edits.now c.args.base c.args.frame k c.loop-child.cursor c.loop-child.child (next) = λ k h. turn _ _ _ _ _ _ _ k _ _ _ (ap (λ (n : ℕ). c.loop-child.child + n) c.word_in.ensures) (c.loop-child.invariant.4 k h) c.loop-child-test.true in let turned : Turn c.args.words.now c.args.numbers.now c.loop-child.rows c.loop-child.marks c.args.edits.now c.args.base c.args.frame c.requires.tree c.loop-child.cursor c.loop-child.child (next) = turning c.requires.tree c.requires.tabled in let its-words : List ℕ = take (4 * next - 4 * c.loop-child.child) (drop (4 * c.loop-child.child) c.args.words.now) in let its-rows : List Float = take (16 * next - 16 * c.loop-child.child) (drop (16 * c.loop-child.child) c.loop-child.rows) in let its-marks : List ℕ = take (2 * next - 2 * c.loop-child.child) (drop (2 * c.loop-child.child) c.loop-child.marks) in let child : IsTree (its-words) c.args.numbers.now (its-rows) (its-marks) c.args.edits.now (c.args.base + c.loop-child.child) (c.args.depth - 1) = let f = turned in let w = c.requires.fit in let u = c.requires.reach in let v = c.requires.tabled.words_long in record { tree = f.tree; tabled = f.tabled; deep = f.shallow c.args.depth c.requires.deep; fit = omega arith; reach = omega arith } in let counts : Counts c.loop-child.cursor = let f = turned in let g = given in let i = c.loop-child.invariant in record { shown = omega (arith, i.3.1); count = omega (arith, i.3.0) } in record { room = (facts _ _ _ _ _ _ _ (child)).room; counts = counts }
 
 pub perform_final_layout_on_in_flow_children-offset_bounds-rows-r0-in-Out : goal.perform_final_layout_on_in_flow_children-offset_bounds-rows-r0-in-Out
 perform_final_layout_on_in_flow_children-offset_bounds-rows-r0-in-Out t c = let next : ℕ = c.loop-child.child + c.word_in.result in let given : Facts c.args.words.now c.args.numbers.now c.args.rows.now c.args.marks.now c.args.edits.now c.args.base c.args.depth = facts _ _ _ _ _ _ _ c.requires in let Tabled : Tree Cell → Type 0 = λ k. TabledT c.args.words.now c.args.numbers.now c.args.rows.now c.args.marks.now c.args.edits.now c.args.base k in let turning : (k : Tree Cell) → Tabled k → Turn c.args.words.now c.args.numbers.now c.loop-child.rows c.loop-child.marks c.args.edits.now c.args.base c.args.frame k c.loop-child.cursor c.loop-child.child (next) = λ k h. turn _ _ _ _ _ _ _ k _ _ _ (ap (λ (n : ℕ). c.loop-child.child + n) c.word_in.ensures) (c.loop-child.invariant.4 k h) c.loop-child-test.true in let turned : Turn c.args.words.now c.args.numbers.now c.loop-child.rows c.loop-child.marks c.args.edits.now c.args.base c.args.frame c.requires.tree c.loop-child.cursor c.loop-child.child (next) = turning c.requires.tree c.requires.tabled in let f = turned in let g = given in omega arith
@@ -213,7 +213,7 @@ pub perform_final_layout_on_in_flow_children-slice_bounds-pass_aside-end-in-Out 
 perform_final_layout_on_in_flow_children-slice_bounds-pass_aside-end-in-Out t c = let next : ℕ = c.loop-child.child + c.word_in.result in let given : Facts c.args.words.now c.args.numbers.now c.args.rows.now c.args.marks.now c.args.edits.now c.args.base c.args.depth = facts _ _ _ _ _ _ _ c.requires in let Tabled : Tree Cell → Type 0 = λ k. TabledT c.args.words.now c.args.numbers.now c.args.rows.now c.args.marks.now c.args.edits.now c.args.base k in let turning : (k : Tree Cell) → Tabled k → Turn c.args.words.now c.args.numbers.now c.loop-child.rows c.loop-child.marks c.args.edits.now c.args.base c.args.frame k c.loop-child.cursor c.loop-child.child (next) = λ k h. turn _ _ _ _ _ _ _ k _ _ _ (ap (λ (n : ℕ). c.loop-child.child + n) c.word_in.ensures) (c.loop-child.invariant.4 k h) c.loop-child-test.true in let turned : Turn c.args.words.now c.args.numbers.now c.loop-child.rows c.loop-child.marks c.args.edits.now c.args.base c.args.frame c.requires.tree c.loop-child.cursor c.loop-child.child (next) = turning c.requires.tree c.requires.tabled in let f = turned in let g = given in omega arith
 
 pub perform_final_layout_on_in_flow_children-pass_aside-cursor-requires : goal.perform_final_layout_on_in_flow_children-pass_aside-cursor-requires
-perform_final_layout_on_in_flow_children-pass_aside-cursor-requires t c = let next : ℕ = c.loop-child.child + c.word_in.result in let given : Facts c.args.words.now c.args.numbers.now c.args.rows.now c.args.marks.now c.args.edits.now c.args.base c.args.depth = facts _ _ _ _ _ _ _ c.requires in let Tabled : Tree Cell → Type 0 = λ k. TabledT c.args.words.now c.args.numbers.now c.args.rows.now c.args.marks.now c.args.edits.now c.args.base k in let turning : (k : Tree Cell) → Tabled k → Turn c.args.words.now c.args.numbers.now c.loop-child.rows c.loop-child.marks c.args.edits.now c.args.base c.args.frame k c.loop-child.cursor c.loop-child.child (next) = λ k h. turn _ _ _ _ _ _ _ k _ _ _ (ap (λ (n : ℕ). c.loop-child.child + n) c.word_in.ensures) (c.loop-child.invariant.4 k h) c.loop-child-test.true in let turned : Turn c.args.words.now c.args.numbers.now c.loop-child.rows c.loop-child.marks c.args.edits.now c.args.base c.args.frame c.requires.tree c.loop-child.cursor c.loop-child.child (next) = turning c.requires.tree c.requires.tabled in let its-words : List ℕ = take (4 * next - 4 * c.loop-child.child) (drop (4 * c.loop-child.child) c.args.words.now) in let its-rows : List Float = take (16 * next - 16 * c.loop-child.child) (drop (16 * c.loop-child.child) c.loop-child.rows) in let its-marks : List ℕ = take (2 * next - 2 * c.loop-child.child) (drop (2 * c.loop-child.child) c.loop-child.marks) in let child : IsTree (its-words) c.args.numbers.now (its-rows) (its-marks) c.args.edits.now (c.args.base + c.loop-child.child) (c.args.depth - 1) = let f = turned in let w = c.requires.fit in let u = c.requires.reach in let v = c.requires.tabled.words_long in record { tree = f.tree; tabled = f.tabled; deep = f.shallow c.args.depth c.requires.deep; fit = omega arith; reach = omega arith } in let counts : Counts c.loop-child.cursor = let f = turned in let g = given in let i = c.loop-child.invariant in record { shown = omega (arith, i.3.1); count = omega (arith, i.3.0) } in ((facts _ _ _ _ _ _ _ (child)).room, counts)
+perform_final_layout_on_in_flow_children-pass_aside-cursor-requires t c = let next : ℕ = c.loop-child.child + c.word_in.result in let given : Facts c.args.words.now c.args.numbers.now c.args.rows.now c.args.marks.now c.args.edits.now c.args.base c.args.depth = facts _ _ _ _ _ _ _ c.requires in let Tabled : Tree Cell → Type 0 = λ k. TabledT c.args.words.now c.args.numbers.now c.args.rows.now c.args.marks.now c.args.edits.now c.args.base k in let turning : (k : Tree Cell) → Tabled k → Turn c.args.words.now c.args.numbers.now c.loop-child.rows c.loop-child.marks c.args.edits.now c.args.base c.args.frame k c.loop-child.cursor c.loop-child.child (next) = λ k h. turn _ _ _ _ _ _ _ k _ _ _ (ap (λ (n : ℕ). c.loop-child.child + n) c.word_in.ensures) (c.loop-child.invariant.4 k h) c.loop-child-test.true in let turned : Turn c.args.words.now c.args.numbers.now c.loop-child.rows c.loop-child.marks c.args.edits.now c.args.base c.args.frame c.requires.tree c.loop-child.cursor c.loop-child.child (next) = turning c.requires.tree c.requires.tabled in let its-words : List ℕ = take (4 * next - 4 * c.loop-child.child) (drop (4 * c.loop-child.child) c.args.words.now) in let its-rows : List Float = take (16 * next - 16 * c.loop-child.child) (drop (16 * c.loop-child.child) c.loop-child.rows) in let its-marks : List ℕ = take (2 * next - 2 * c.loop-child.child) (drop (2 * c.loop-child.child) c.loop-child.marks) in let child : IsTree (its-words) c.args.numbers.now (its-rows) (its-marks) c.args.edits.now (c.args.base + c.loop-child.child) (c.args.depth - 1) = let f = turned in let w = c.requires.fit in let u = c.requires.reach in let v = c.requires.tabled.words_long in record { tree = f.tree; tabled = f.tabled; deep = f.shallow c.args.depth c.requires.deep; fit = omega arith; reach = omega arith } in let counts : Counts c.loop-child.cursor = let f = turned in let g = given in let i = c.loop-child.invariant in record { shown = omega (arith, i.3.1); count = omega (arith, i.3.0) } in record { room = (facts _ _ _ _ _ _ _ (child)).room; counts = counts }
 
 pub perform_final_layout_on_in_flow_children-offset_bounds-words-w0-in-In : goal.perform_final_layout_on_in_flow_children-offset_bounds-words-w0-in-In
 perform_final_layout_on_in_flow_children-offset_bounds-words-w0-in-In t c = let next : ℕ = c.loop-child.child + c.word_in.result in let given : Facts c.args.words.now c.args.numbers.now c.args.rows.now c.args.marks.now c.args.edits.now c.args.base c.args.depth = facts _ _ _ _ _ _ _ c.requires in let Tabled : Tree Cell → Type 0 = λ k. TabledT c.args.words.now c.args.numbers.now c.args.rows.now c.args.marks.now c.args.edits.now c.args.base k in let turning : (k : Tree Cell) → Tabled k → Turn c.args.words.now c.args.numbers.now c.loop-child.rows c.loop-child.marks c.args.edits.now c.args.base c.args.frame k c.loop-child.cursor c.loop-child.child (next) = λ k h. turn _ _ _ _ _ _ _ k _ _ _ (ap (λ (n : ℕ). c.loop-child.child + n) c.word_in.ensures) (c.loop-child.invariant.4 k h) c.loop-child-test.true in let turned : Turn c.args.words.now c.args.numbers.now c.loop-child.rows c.loop-child.marks c.args.edits.now c.args.base c.args.frame c.requires.tree c.loop-child.cursor c.loop-child.child (next) = turning c.requires.tree c.requires.tabled in let f = turned in let g = given in omega arith
@@ -276,7 +276,7 @@ pub perform_final_layout_on_in_flow_children-overflow_sub-depth : goal.perform_f
 perform_final_layout_on_in_flow_children-overflow_sub-depth t c = let next : ℕ = c.loop-child.child + c.word_in.result in let given : Facts c.args.words.now c.args.numbers.now c.args.rows.now c.args.marks.now c.args.edits.now c.args.base c.args.depth = facts _ _ _ _ _ _ _ c.requires in let Tabled : Tree Cell → Type 0 = λ k. TabledT c.args.words.now c.args.numbers.now c.args.rows.now c.args.marks.now c.args.edits.now c.args.base k in let turning : (k : Tree Cell) → Tabled k → Turn c.args.words.now c.args.numbers.now c.loop-child.rows c.loop-child.marks c.args.edits.now c.args.base c.args.frame k c.loop-child.cursor c.loop-child.child (next) = λ k h. turn _ _ _ _ _ _ _ k _ _ _ (ap (λ (n : ℕ). c.loop-child.child + n) c.word_in.ensures) (c.loop-child.invariant.4 k h) c.loop-child-test.true in let turned : Turn c.args.words.now c.args.numbers.now c.loop-child.rows c.loop-child.marks c.args.edits.now c.args.base c.args.frame c.requires.tree c.loop-child.cursor c.loop-child.child (next) = turning c.requires.tree c.requires.tabled in let f = turned in let g = given in omega arith
 
 pub perform_final_layout_on_in_flow_children-compute_child_layout-answer-requires : goal.perform_final_layout_on_in_flow_children-compute_child_layout-answer-requires
-perform_final_layout_on_in_flow_children-compute_child_layout-answer-requires t c = let next : ℕ = c.loop-child.child + c.word_in.result in let given : Facts c.args.words.now c.args.numbers.now c.args.rows.now c.args.marks.now c.args.edits.now c.args.base c.args.depth = facts _ _ _ _ _ _ _ c.requires in let Tabled : Tree Cell → Type 0 = λ k. TabledT c.args.words.now c.args.numbers.now c.args.rows.now c.args.marks.now c.args.edits.now c.args.base k in let turning : (k : Tree Cell) → Tabled k → Turn c.args.words.now c.args.numbers.now c.loop-child.rows c.loop-child.marks c.args.edits.now c.args.base c.args.frame k c.loop-child.cursor c.loop-child.child (next) = λ k h. turn _ _ _ _ _ _ _ k _ _ _ (ap (λ (n : ℕ). c.loop-child.child + n) c.word_in.ensures) (c.loop-child.invariant.4 k h) c.loop-child-test.true in let turned : Turn c.args.words.now c.args.numbers.now c.loop-child.rows c.loop-child.marks c.args.edits.now c.args.base c.args.frame c.requires.tree c.loop-child.cursor c.loop-child.child (next) = turning c.requires.tree c.requires.tabled in let its-words : List ℕ = take (4 * next - 4 * c.loop-child.child) (drop (4 * c.loop-child.child) c.args.words.now) in let its-rows : List Float = take (16 * next - 16 * c.loop-child.child) (drop (16 * c.loop-child.child) c.loop-child.rows) in let its-marks : List ℕ = take (2 * next - 2 * c.loop-child.child) (drop (2 * c.loop-child.child) c.loop-child.marks) in let child : IsTree (its-words) c.args.numbers.now (its-rows) (its-marks) c.args.edits.now (c.args.base + c.loop-child.child) (c.args.depth - 1) = let f = turned in let w = c.requires.fit in let u = c.requires.reach in let v = c.requires.tabled.words_long in record { tree = f.tree; tabled = f.tabled; deep = f.shallow c.args.depth c.requires.deep; fit = omega arith; reach = omega arith } in let g = given in (omega (arith, (t.before.before.before.before.before.before.before c.before.before.before.before.before.before.before.before.before.before.before.before.before).pre.0, g.deep), child)
+perform_final_layout_on_in_flow_children-compute_child_layout-answer-requires t c = let next : ℕ = c.loop-child.child + c.word_in.result in let given : Facts c.args.words.now c.args.numbers.now c.args.rows.now c.args.marks.now c.args.edits.now c.args.base c.args.depth = facts _ _ _ _ _ _ _ c.requires in let Tabled : Tree Cell → Type 0 = λ k. TabledT c.args.words.now c.args.numbers.now c.args.rows.now c.args.marks.now c.args.edits.now c.args.base k in let turning : (k : Tree Cell) → Tabled k → Turn c.args.words.now c.args.numbers.now c.loop-child.rows c.loop-child.marks c.args.edits.now c.args.base c.args.frame k c.loop-child.cursor c.loop-child.child (next) = λ k h. turn _ _ _ _ _ _ _ k _ _ _ (ap (λ (n : ℕ). c.loop-child.child + n) c.word_in.ensures) (c.loop-child.invariant.4 k h) c.loop-child-test.true in let turned : Turn c.args.words.now c.args.numbers.now c.loop-child.rows c.loop-child.marks c.args.edits.now c.args.base c.args.frame c.requires.tree c.loop-child.cursor c.loop-child.child (next) = turning c.requires.tree c.requires.tabled in let its-words : List ℕ = take (4 * next - 4 * c.loop-child.child) (drop (4 * c.loop-child.child) c.args.words.now) in let its-rows : List Float = take (16 * next - 16 * c.loop-child.child) (drop (16 * c.loop-child.child) c.loop-child.rows) in let its-marks : List ℕ = take (2 * next - 2 * c.loop-child.child) (drop (2 * c.loop-child.child) c.loop-child.marks) in let child : IsTree (its-words) c.args.numbers.now (its-rows) (its-marks) c.args.edits.now (c.args.base + c.loop-child.child) (c.args.depth - 1) = let f = turned in let w = c.requires.fit in let u = c.requires.reach in let v = c.requires.tabled.words_long in record { tree = f.tree; tabled = f.tabled; deep = f.shallow c.args.depth c.requires.deep; fit = omega arith; reach = omega arith } in let g = given in (omega (arith, c.decreases, g.deep), child)
 
 pub perform_final_layout_on_in_flow_children-offset_bounds-rows-r0-in-In-2 : goal.perform_final_layout_on_in_flow_children-offset_bounds-rows-r0-in-In-2
 perform_final_layout_on_in_flow_children-offset_bounds-rows-r0-in-In-2 t c = let next : ℕ = c.loop-child.child + c.word_in.result in let given : Facts c.args.words.now c.args.numbers.now c.args.rows.now c.args.marks.now c.args.edits.now c.args.base c.args.depth = facts _ _ _ _ _ _ _ c.requires in let Tabled : Tree Cell → Type 0 = λ k. TabledT c.args.words.now c.args.numbers.now c.args.rows.now c.args.marks.now c.args.edits.now c.args.base k in let turning : (k : Tree Cell) → Tabled k → Turn c.args.words.now c.args.numbers.now c.loop-child.rows c.loop-child.marks c.args.edits.now c.args.base c.args.frame k c.loop-child.cursor c.loop-child.child (next) = λ k h. turn _ _ _ _ _ _ _ k _ _ _ (ap (λ (n : ℕ). c.loop-child.child + n) c.word_in.ensures) (c.loop-child.invariant.4 k h) c.loop-child-test.true in let turned : Turn c.args.words.now c.args.numbers.now c.loop-child.rows c.loop-child.marks c.args.edits.now c.args.base c.args.frame c.requires.tree c.loop-child.cursor c.loop-child.child (next) = turning c.requires.tree c.requires.tabled in let f = turned in let g = given in omega arith
@@ -303,38 +303,33 @@ pub perform_final_layout_on_in_flow_children-slice_bounds-settle-end-in-In : goa
 perform_final_layout_on_in_flow_children-slice_bounds-settle-end-in-In t c = let next : ℕ = c.loop-child.child + c.word_in.result in let given : Facts c.args.words.now c.args.numbers.now c.args.rows.now c.args.marks.now c.args.edits.now c.args.base c.args.depth = facts _ _ _ _ _ _ _ c.requires in let Tabled : Tree Cell → Type 0 = λ k. TabledT c.args.words.now c.args.numbers.now c.args.rows.now c.args.marks.now c.args.edits.now c.args.base k in let turning : (k : Tree Cell) → Tabled k → Turn c.args.words.now c.args.numbers.now c.loop-child.rows c.loop-child.marks c.args.edits.now c.args.base c.args.frame k c.loop-child.cursor c.loop-child.child (next) = λ k h. turn _ _ _ _ _ _ _ k _ _ _ (ap (λ (n : ℕ). c.loop-child.child + n) c.word_in.ensures) (c.loop-child.invariant.4 k h) c.loop-child-test.true in let turned : Turn c.args.words.now c.args.numbers.now c.loop-child.rows c.loop-child.marks c.args.edits.now c.args.base c.args.frame c.requires.tree c.loop-child.cursor c.loop-child.child (next) = turning c.requires.tree c.requires.tabled in let f = turned in let g = given in omega arith
 
 pub perform_final_layout_on_in_flow_children-settle-cursor-requires : goal.perform_final_layout_on_in_flow_children-settle-cursor-requires
-perform_final_layout_on_in_flow_children-settle-cursor-requires t c = let next : ℕ = c.loop-child.child + c.word_in.result in let given : Facts c.args.words.now c.args.numbers.now c.args.rows.now c.args.marks.now c.args.edits.now c.args.base c.args.depth = facts _ _ _ _ _ _ _ c.requires in let Tabled : Tree Cell → Type 0 = λ k. TabledT c.args.words.now c.args.numbers.now c.args.rows.now c.args.marks.now c.args.edits.now c.args.base k in let turning : (k : Tree Cell) → Tabled k → Turn c.args.words.now c.args.numbers.now c.loop-child.rows c.loop-child.marks c.args.edits.now c.args.base c.args.frame k c.loop-child.cursor c.loop-child.child (next) = λ k h. turn _ _ _ _ _ _ _ k _ _ _ (ap (λ (n : ℕ). c.loop-child.child + n) c.word_in.ensures) (c.loop-child.invariant.4 k h) c.loop-child-test.true in let turned : Turn c.args.words.now c.args.numbers.now c.loop-child.rows c.loop-child.marks c.args.edits.now c.args.base c.args.frame c.requires.tree c.loop-child.cursor c.loop-child.child (next) = turning c.requires.tree c.requires.tabled in let its-words : List ℕ = take (4 * next - 4 * c.loop-child.child) (drop (4 * c.loop-child.child) c.args.words.now) in let its-rows : List Float = take (16 * next - 16 * c.loop-child.child) (drop (16 * c.loop-child.child) c.loop-child.rows) in let its-marks : List ℕ = take (2 * next - 2 * c.loop-child.child) (drop (2 * c.loop-child.child) c.loop-child.marks) in let child : IsTree (its-words) c.args.numbers.now (its-rows) (its-marks) c.args.edits.now (c.args.base + c.loop-child.child) (c.args.depth - 1) = let f = turned in let w = c.requires.fit in let u = c.requires.reach in let v = c.requires.tabled.words_long in record { tree = f.tree; tabled = f.tabled; deep = f.shallow c.args.depth c.requires.deep; fit = omega arith; reach = omega arith } in let counts : Counts c.loop-child.cursor = let f = turned in let g = given in let i = c.loop-child.invariant in record { shown = omega (arith, i.3.1); count = omega (arith, i.3.0) } in let k = facts _ _ _ _ _ _ _ (child) in let r = k.room in (record { rows_some = omega arith; marks_some = omega arith }, counts)
+perform_final_layout_on_in_flow_children-settle-cursor-requires t c = let next : ℕ = c.loop-child.child + c.word_in.result in let given : Facts c.args.words.now c.args.numbers.now c.args.rows.now c.args.marks.now c.args.edits.now c.args.base c.args.depth = facts _ _ _ _ _ _ _ c.requires in let Tabled : Tree Cell → Type 0 = λ k. TabledT c.args.words.now c.args.numbers.now c.args.rows.now c.args.marks.now c.args.edits.now c.args.base k in let turning : (k : Tree Cell) → Tabled k → Turn c.args.words.now c.args.numbers.now c.loop-child.rows c.loop-child.marks c.args.edits.now c.args.base c.args.frame k c.loop-child.cursor c.loop-child.child (next) = λ k h. turn _ _ _ _ _ _ _ k _ _ _ (ap (λ (n : ℕ). c.loop-child.child + n) c.word_in.ensures) (c.loop-child.invariant.4 k h) c.loop-child-test.true in let turned : Turn c.args.words.now c.args.numbers.now c.loop-child.rows c.loop-child.marks c.args.edits.now c.args.base c.args.frame c.requires.tree c.loop-child.cursor c.loop-child.child (next) = turning c.requires.tree c.requires.tabled in let its-words : List ℕ = take (4 * next - 4 * c.loop-child.child) (drop (4 * c.loop-child.child) c.args.words.now) in let its-rows : List Float = take (16 * next - 16 * c.loop-child.child) (drop (16 * c.loop-child.child) c.loop-child.rows) in let its-marks : List ℕ = take (2 * next - 2 * c.loop-child.child) (drop (2 * c.loop-child.child) c.loop-child.marks) in let child : IsTree (its-words) c.args.numbers.now (its-rows) (its-marks) c.args.edits.now (c.args.base + c.loop-child.child) (c.args.depth - 1) = let f = turned in let w = c.requires.fit in let u = c.requires.reach in let v = c.requires.tabled.words_long in record { tree = f.tree; tabled = f.tabled; deep = f.shallow c.args.depth c.requires.deep; fit = omega arith; reach = omega arith } in let counts : Counts c.loop-child.cursor = let f = turned in let g = given in let i = c.loop-child.invariant in record { shown = omega (arith, i.3.1); count = omega (arith, i.3.0) } in let k = facts _ _ _ _ _ _ _ (child) in let r = k.room in record { room = record { rows_some = omega arith; marks_some = omega arith }; counts = counts }
 
 pub perform_final_layout_on_in_flow_children-loop-child-smaller-in-Gone : goal.perform_final_layout_on_in_flow_children-loop-child-smaller-in-Gone
-perform_final_layout_on_in_flow_children-loop-child-smaller-in-Gone t c = let hidden-step : perform_final_layout_on_in_flow_children-lts.After-word-in t = c.before.before.before.before.before.before.before.before.before.before.before in let f = turned t (hidden-step) in shorter _ _ _ f.some f.words_in_lem
+perform_final_layout_on_in_flow_children-loop-child-smaller-in-Gone t c = let next : ℕ = c.loop-child.child + c.word_in.result in let Tabled : Tree Cell → Type 0 = λ k. TabledT c.args.words.now c.args.numbers.now c.args.rows.now c.args.marks.now c.args.edits.now c.args.base k in let turning : (k : Tree Cell) → Tabled k → Turn c.args.words.now c.args.numbers.now c.loop-child.rows c.loop-child.marks c.args.edits.now c.args.base c.args.frame k c.loop-child.cursor c.loop-child.child (next) = λ k h. turn _ _ _ _ _ _ _ k _ _ _ (ap (λ (n : ℕ). c.loop-child.child + n) c.word_in.ensures) (c.loop-child.invariant.4 k h) c.loop-child-test.true in let turned : Turn c.args.words.now c.args.numbers.now c.loop-child.rows c.loop-child.marks c.args.edits.now c.args.base c.args.frame c.requires.tree c.loop-child.cursor c.loop-child.child (next) = turning c.requires.tree c.requires.tabled in let f = turned in shorter _ _ _ f.some f.words_in_lem
 
 pub perform_final_layout_on_in_flow_children-loop-child-preserved-in-Gone : goal.perform_final_layout_on_in_flow_children-loop-child-preserved-in-Gone
-perform_final_layout_on_in_flow_children-loop-child-preserved-in-Gone t c = let hidden-step : perform_final_layout_on_in_flow_children-lts.After-word-in t = c.before.before.before.before.before.before.before.before.before.before.before in let hidden_placed : ChildPlaced t (hidden-step) c.pass_hidden-cursor.result c.pass_hidden-cursor.new.rows c.pass_hidden-cursor.new.marks = let at-pass-hidden = c.before.before.before.before in let at-enum-told = c.before.before.before.before.before.before.before in let at-flow = at-enum-told.before.before in let s = t.before.before.before.before.before.before.before (t.before.before (hidden-step)) in let flow_is = at-flow.flow.ensures ∙ flow_at_lem _ s.args.numbers.now (s.args.base + (t.before.before (hidden-step)).loop.child) in gone-placed _ s.args.numbers.now _ _ s.args.edits.now (s.args.base + (t.before.before (hidden-step)).loop.child) s.args.frame (t.before.before (hidden-step)).loop.cursor _ _ refl flow_is _ _ _ at-enum-told.enum_told.given.1 at-pass-hidden.pass-hidden.ensures in let at-step = hidden-step in
-    (rows_long t at-step c.pass_hidden-cursor.new.rows c.pass_hidden-cursor.auto.0, marks_long t at-step c.pass_hidden-cursor.new.marks c.pass_hidden-cursor.auto.1.0, (turned t at-step).words_in_lem, counted-on t at-step _ _ _ (hidden_placed), rest-on t at-step _ _ _ (hidden_placed))
+perform_final_layout_on_in_flow_children-loop-child-preserved-in-Gone t c = let next : ℕ = c.loop-child.child + c.word_in.result in let Tabled : Tree Cell → Type 0 = λ k. TabledT c.args.words.now c.args.numbers.now c.args.rows.now c.args.marks.now c.args.edits.now c.args.base k in let turning : (k : Tree Cell) → Tabled k → Turn c.args.words.now c.args.numbers.now c.loop-child.rows c.loop-child.marks c.args.edits.now c.args.base c.args.frame k c.loop-child.cursor c.loop-child.child (next) = λ k h. turn _ _ _ _ _ _ _ k _ _ _ (ap (λ (n : ℕ). c.loop-child.child + n) c.word_in.ensures) (c.loop-child.invariant.4 k h) c.loop-child-test.true in let turned : Turn c.args.words.now c.args.numbers.now c.loop-child.rows c.loop-child.marks c.args.edits.now c.args.base c.args.frame c.requires.tree c.loop-child.cursor c.loop-child.child (next) = turning c.requires.tree c.requires.tabled in let its-words : List ℕ = take (4 * next - 4 * c.loop-child.child) (drop (4 * c.loop-child.child) c.args.words.now) in let its-rows : List Float = take (16 * next - 16 * c.loop-child.child) (drop (16 * c.loop-child.child) c.loop-child.rows) in let its-marks : List ℕ = take (2 * next - 2 * c.loop-child.child) (drop (2 * c.loop-child.child) c.loop-child.marks) in let with_rows : List Float → List Float → List Float = λ rs nr. put_mid (16 * c.loop-child.child) (16 * next - 16 * c.loop-child.child) rs nr in let with-marks : List ℕ → List ℕ → List ℕ = λ ms nm. put_mid (2 * c.loop-child.child) (2 * next - 2 * c.loop-child.child) ms nm in let ChildPlaced : Cursor → List Float → List ℕ → Type 0 = λ end nr nm. PlacedT (its-words) c.args.numbers.now (its-rows) (its-marks) c.args.edits.now (c.args.base + c.loop-child.child) c.args.frame c.loop-child.cursor end nr nm in let counted-on : (end : Cursor) (nr : List Float) (nm : List ℕ) → ChildPlaced end nr nm → (end.count ≤ next) × (end.shown.0 ≤ next) = λ end nr nm p. let f = turned in let k = f.counted _ (p f.tree f.tabled).0 in let i = c.loop-child.invariant.3 in counted_to c.loop-child.child (next) c.loop-child.cursor.count c.loop-child.cursor.shown.0 end.count end.shown.0 f.some i.0 i.1 k.0 k.1 in let rest-on : (end : Cursor) (nr : List Float) (nm : List ℕ) → ChildPlaced end nr nm → (k : Tree Cell) → Tabled k → RestT c.args.words.now c.args.numbers.now (with_rows c.loop-child.rows nr) (with-marks c.loop-child.marks nm) c.args.edits.now c.args.base c.args.frame k end (next) = λ end nr nm p k h. let g = turning k h in g.next _ _ _ (p g.tree g.tabled) in let rows_long : (nr : List Float) → length nr ≡ length (its-rows) → length (with_rows c.loop-child.rows nr) ≡ length c.args.rows.now = λ nr e. same_len_mid (16 * c.loop-child.child) (16 * next - 16 * c.loop-child.child) c.loop-child.rows nr e ∙ c.loop-child.invariant.0 in let marks_long : (nm : List ℕ) → length nm ≡ length (its-marks) → length (with-marks c.loop-child.marks nm) ≡ length c.args.marks.now = λ nm e. same_len_mid (2 * c.loop-child.child) (2 * next - 2 * c.loop-child.child) c.loop-child.marks nm e ∙ c.loop-child.invariant.1 in let hidden_placed : ChildPlaced c.pass_hidden-cursor.result c.pass_hidden-cursor.new.rows c.pass_hidden-cursor.new.marks = let flow_is = c.flow-flow.ensures ∙ flow_at_lem _ c.args.numbers.now (c.args.base + c.loop-child.child) in gone-placed _ c.args.numbers.now _ _ c.args.edits.now (c.args.base + c.loop-child.child) c.args.frame c.loop-child.cursor _ _ refl flow_is _ _ _ c.in-Gone.is c.pass_hidden-cursor.ensures in (rows_long c.pass_hidden-cursor.new.rows c.pass_hidden-cursor.auto.rows, marks_long c.pass_hidden-cursor.new.marks c.pass_hidden-cursor.auto.marks, (turned).words_in_lem, counted-on _ _ _ (hidden_placed), rest-on _ _ _ (hidden_placed))
 
 pub perform_final_layout_on_in_flow_children-loop-child-smaller-in-Out : goal.perform_final_layout_on_in_flow_children-loop-child-smaller-in-Out
-perform_final_layout_on_in_flow_children-loop-child-smaller-in-Out t c = let aside-step : perform_final_layout_on_in_flow_children-lts.After-word-in t = c.before.before.before.before.before.before.before.before.before.before.before in let f = turned t (aside-step) in shorter _ _ _ f.some f.words_in_lem
+perform_final_layout_on_in_flow_children-loop-child-smaller-in-Out t c = let next : ℕ = c.loop-child.child + c.word_in.result in let Tabled : Tree Cell → Type 0 = λ k. TabledT c.args.words.now c.args.numbers.now c.args.rows.now c.args.marks.now c.args.edits.now c.args.base k in let turning : (k : Tree Cell) → Tabled k → Turn c.args.words.now c.args.numbers.now c.loop-child.rows c.loop-child.marks c.args.edits.now c.args.base c.args.frame k c.loop-child.cursor c.loop-child.child (next) = λ k h. turn _ _ _ _ _ _ _ k _ _ _ (ap (λ (n : ℕ). c.loop-child.child + n) c.word_in.ensures) (c.loop-child.invariant.4 k h) c.loop-child-test.true in let turned : Turn c.args.words.now c.args.numbers.now c.loop-child.rows c.loop-child.marks c.args.edits.now c.args.base c.args.frame c.requires.tree c.loop-child.cursor c.loop-child.child (next) = turning c.requires.tree c.requires.tabled in let f = turned in shorter _ _ _ f.some f.words_in_lem
 
 pub perform_final_layout_on_in_flow_children-loop-child-preserved-in-Out : goal.perform_final_layout_on_in_flow_children-loop-child-preserved-in-Out
-perform_final_layout_on_in_flow_children-loop-child-preserved-in-Out t c = let aside-step : perform_final_layout_on_in_flow_children-lts.After-word-in t = c.before.before.before.before.before.before.before.before.before.before.before in let aside-placed : ChildPlaced t (aside-step) c.pass_aside-cursor.result c.pass_aside-cursor.new.rows c.pass_aside-cursor.new.marks = let at-pass-aside = c.before.before.before.before in let at-enum-told2 = c.before.before.before.before.before.before.before in let at-flow = at-enum-told2.before.before in let s = t.before.before.before.before.before.before.before (t.before.before (aside-step)) in let flow_is = at-flow.flow.ensures ∙ flow_at_lem _ s.args.numbers.now (s.args.base + (t.before.before (aside-step)).loop.child) in out-placed _ s.args.numbers.now _ _ s.args.edits.now (s.args.base + (t.before.before (aside-step)).loop.child) s.args.frame (t.before.before (aside-step)).loop.cursor _ _ refl flow_is _ _ _ at-enum-told2.enum-told2.given.1 at-pass-aside.pass-aside.ensures in let at-step = aside-step in
-    (rows_long t at-step c.pass_aside-cursor.new.rows c.pass_aside-cursor.auto.0, marks_long t at-step c.pass_aside-cursor.new.marks c.pass_aside-cursor.auto.1.0, (turned t at-step).words_in_lem, counted-on t at-step _ _ _ (aside-placed), rest-on t at-step _ _ _ (aside-placed))
+perform_final_layout_on_in_flow_children-loop-child-preserved-in-Out t c = let next : ℕ = c.loop-child.child + c.word_in.result in let Tabled : Tree Cell → Type 0 = λ k. TabledT c.args.words.now c.args.numbers.now c.args.rows.now c.args.marks.now c.args.edits.now c.args.base k in let turning : (k : Tree Cell) → Tabled k → Turn c.args.words.now c.args.numbers.now c.loop-child.rows c.loop-child.marks c.args.edits.now c.args.base c.args.frame k c.loop-child.cursor c.loop-child.child (next) = λ k h. turn _ _ _ _ _ _ _ k _ _ _ (ap (λ (n : ℕ). c.loop-child.child + n) c.word_in.ensures) (c.loop-child.invariant.4 k h) c.loop-child-test.true in let turned : Turn c.args.words.now c.args.numbers.now c.loop-child.rows c.loop-child.marks c.args.edits.now c.args.base c.args.frame c.requires.tree c.loop-child.cursor c.loop-child.child (next) = turning c.requires.tree c.requires.tabled in let its-words : List ℕ = take (4 * next - 4 * c.loop-child.child) (drop (4 * c.loop-child.child) c.args.words.now) in let its-rows : List Float = take (16 * next - 16 * c.loop-child.child) (drop (16 * c.loop-child.child) c.loop-child.rows) in let its-marks : List ℕ = take (2 * next - 2 * c.loop-child.child) (drop (2 * c.loop-child.child) c.loop-child.marks) in let with_rows : List Float → List Float → List Float = λ rs nr. put_mid (16 * c.loop-child.child) (16 * next - 16 * c.loop-child.child) rs nr in let with-marks : List ℕ → List ℕ → List ℕ = λ ms nm. put_mid (2 * c.loop-child.child) (2 * next - 2 * c.loop-child.child) ms nm in let ChildPlaced : Cursor → List Float → List ℕ → Type 0 = λ end nr nm. PlacedT (its-words) c.args.numbers.now (its-rows) (its-marks) c.args.edits.now (c.args.base + c.loop-child.child) c.args.frame c.loop-child.cursor end nr nm in let counted-on : (end : Cursor) (nr : List Float) (nm : List ℕ) → ChildPlaced end nr nm → (end.count ≤ next) × (end.shown.0 ≤ next) = λ end nr nm p. let f = turned in let k = f.counted _ (p f.tree f.tabled).0 in let i = c.loop-child.invariant.3 in counted_to c.loop-child.child (next) c.loop-child.cursor.count c.loop-child.cursor.shown.0 end.count end.shown.0 f.some i.0 i.1 k.0 k.1 in let rest-on : (end : Cursor) (nr : List Float) (nm : List ℕ) → ChildPlaced end nr nm → (k : Tree Cell) → Tabled k → RestT c.args.words.now c.args.numbers.now (with_rows c.loop-child.rows nr) (with-marks c.loop-child.marks nm) c.args.edits.now c.args.base c.args.frame k end (next) = λ end nr nm p k h. let g = turning k h in g.next _ _ _ (p g.tree g.tabled) in let rows_long : (nr : List Float) → length nr ≡ length (its-rows) → length (with_rows c.loop-child.rows nr) ≡ length c.args.rows.now = λ nr e. same_len_mid (16 * c.loop-child.child) (16 * next - 16 * c.loop-child.child) c.loop-child.rows nr e ∙ c.loop-child.invariant.0 in let marks_long : (nm : List ℕ) → length nm ≡ length (its-marks) → length (with-marks c.loop-child.marks nm) ≡ length c.args.marks.now = λ nm e. same_len_mid (2 * c.loop-child.child) (2 * next - 2 * c.loop-child.child) c.loop-child.marks nm e ∙ c.loop-child.invariant.1 in let aside-placed : ChildPlaced c.pass_aside-cursor.result c.pass_aside-cursor.new.rows c.pass_aside-cursor.new.marks = let flow_is = c.flow-flow.ensures ∙ flow_at_lem _ c.args.numbers.now (c.args.base + c.loop-child.child) in out-placed _ c.args.numbers.now _ _ c.args.edits.now (c.args.base + c.loop-child.child) c.args.frame c.loop-child.cursor _ _ refl flow_is _ _ _ c.in-Out.is c.pass_aside-cursor.ensures in (rows_long c.pass_aside-cursor.new.rows c.pass_aside-cursor.auto.rows, marks_long c.pass_aside-cursor.new.marks c.pass_aside-cursor.auto.marks, (turned).words_in_lem, counted-on _ _ _ (aside-placed), rest-on _ _ _ (aside-placed))
 
 pub perform_final_layout_on_in_flow_children-loop-child-smaller : goal.perform_final_layout_on_in_flow_children-loop-child-smaller
-perform_final_layout_on_in_flow_children-loop-child-smaller t c = let settled-step : perform_final_layout_on_in_flow_children-lts.After-word-in t = c.before.before.before.before.before.before.before.before.before.before.before.before.before.before.before.before.before.before.before.before.before.before.before in let f = turned t (settled-step) in shorter _ _ _ f.some f.words_in_lem
+perform_final_layout_on_in_flow_children-loop-child-smaller t c = let next : ℕ = c.loop-child.child + c.word_in.result in let Tabled : Tree Cell → Type 0 = λ k. TabledT c.args.words.now c.args.numbers.now c.args.rows.now c.args.marks.now c.args.edits.now c.args.base k in let turning : (k : Tree Cell) → Tabled k → Turn c.args.words.now c.args.numbers.now c.loop-child.rows c.loop-child.marks c.args.edits.now c.args.base c.args.frame k c.loop-child.cursor c.loop-child.child (next) = λ k h. turn _ _ _ _ _ _ _ k _ _ _ (ap (λ (n : ℕ). c.loop-child.child + n) c.word_in.ensures) (c.loop-child.invariant.4 k h) c.loop-child-test.true in let turned : Turn c.args.words.now c.args.numbers.now c.loop-child.rows c.loop-child.marks c.args.edits.now c.args.base c.args.frame c.requires.tree c.loop-child.cursor c.loop-child.child (next) = turning c.requires.tree c.requires.tabled in let f = turned in shorter _ _ _ f.some f.words_in_lem
 
 pub perform_final_layout_on_in_flow_children-loop-child-preserved : goal.perform_final_layout_on_in_flow_children-loop-child-preserved
-perform_final_layout_on_in_flow_children-loop-child-preserved t c = let settled-step : perform_final_layout_on_in_flow_children-lts.After-word-in t = c.before.before.before.before.before.before.before.before.before.before.before.before.before.before.before.before.before.before.before.before.before.before.before in let settled-placed : ChildPlaced t (settled-step) c.settle-cursor.result c.settle-cursor.new.rows c.settle-cursor.new.marks = let at-settle = c.before.before.before.before in let at-asked = c.before.before.before.before.before.before.before.before.before.before.before in let at-plan-at = c.before.before.before.before.before.before.before.before.before.before.before.before.before.before.before.before.before in let at-enum-told3 = c.before.before.before.before.before.before.before.before.before.before.before.before.before.before.before.before.before.before.before in let at-flow = at-enum-told3.before.before in let at-step = settled-step in let s = t.before.before.before.before.before.before.before at-step.before.before in let flow_is = at-flow.flow.ensures ∙ flow_at_lem _ s.args.numbers.now (s.args.base + at-step.before.before.loop.child) in let f = turned t at-step in let again = settled-again at-step.before.before.loop.child (next t at-step) s.args.words.now at-step.before.before.loop.rows at-asked.compute-child-layout.new.1.1.0 at-step.before.before.loop.marks at-asked.compute-child-layout.new.1.1.1.0 f.some f.words_in_lem f.rows_long f.marks_long at-asked.compute-child-layout.auto.1.1.0 at-asked.compute-child-layout.auto.1.1.1.0 _ _ _ _ _ _ _ at-settle.settle.ensures in in-placed _ s.args.numbers.now _ _ s.args.edits.now (s.args.base + at-step.before.before.loop.child) s.args.frame at-step.before.before.loop.cursor _ _ refl flow_is _ _ _ _ _ _ _ _ at-enum-told3.enum-told3.given.1 at-plan-at.plan-at.ensures.0 at-asked.compute-child-layout.ensures at-plan-at.plan-at.ensures.1 again in let at-step = settled-step in
-    let at-loop = at-step.before.before in
-    let s = at-loop.before.before.before.before.before.before.before in
-    let nr = c.compute_child_layout-answer.new.rows in
+perform_final_layout_on_in_flow_children-loop-child-preserved t c = let next : ℕ = c.loop-child.child + c.word_in.result in let Tabled : Tree Cell → Type 0 = λ k. TabledT c.args.words.now c.args.numbers.now c.args.rows.now c.args.marks.now c.args.edits.now c.args.base k in let turning : (k : Tree Cell) → Tabled k → Turn c.args.words.now c.args.numbers.now c.loop-child.rows c.loop-child.marks c.args.edits.now c.args.base c.args.frame k c.loop-child.cursor c.loop-child.child (next) = λ k h. turn _ _ _ _ _ _ _ k _ _ _ (ap (λ (n : ℕ). c.loop-child.child + n) c.word_in.ensures) (c.loop-child.invariant.4 k h) c.loop-child-test.true in let turned : Turn c.args.words.now c.args.numbers.now c.loop-child.rows c.loop-child.marks c.args.edits.now c.args.base c.args.frame c.requires.tree c.loop-child.cursor c.loop-child.child (next) = turning c.requires.tree c.requires.tabled in let its-words : List ℕ = take (4 * next - 4 * c.loop-child.child) (drop (4 * c.loop-child.child) c.args.words.now) in let its-rows : List Float = take (16 * next - 16 * c.loop-child.child) (drop (16 * c.loop-child.child) c.loop-child.rows) in let its-marks : List ℕ = take (2 * next - 2 * c.loop-child.child) (drop (2 * c.loop-child.child) c.loop-child.marks) in let with_rows : List Float → List Float → List Float = λ rs nr. put_mid (16 * c.loop-child.child) (16 * next - 16 * c.loop-child.child) rs nr in let with-marks : List ℕ → List ℕ → List ℕ = λ ms nm. put_mid (2 * c.loop-child.child) (2 * next - 2 * c.loop-child.child) ms nm in let ChildPlaced : Cursor → List Float → List ℕ → Type 0 = λ end nr nm. PlacedT (its-words) c.args.numbers.now (its-rows) (its-marks) c.args.edits.now (c.args.base + c.loop-child.child) c.args.frame c.loop-child.cursor end nr nm in let counted-on : (end : Cursor) (nr : List Float) (nm : List ℕ) → ChildPlaced end nr nm → (end.count ≤ next) × (end.shown.0 ≤ next) = λ end nr nm p. let f = turned in let k = f.counted _ (p f.tree f.tabled).0 in let i = c.loop-child.invariant.3 in counted_to c.loop-child.child (next) c.loop-child.cursor.count c.loop-child.cursor.shown.0 end.count end.shown.0 f.some i.0 i.1 k.0 k.1 in let rest-on : (end : Cursor) (nr : List Float) (nm : List ℕ) → ChildPlaced end nr nm → (k : Tree Cell) → Tabled k → RestT c.args.words.now c.args.numbers.now (with_rows c.loop-child.rows nr) (with-marks c.loop-child.marks nm) c.args.edits.now c.args.base c.args.frame k end (next) = λ end nr nm p k h. let g = turning k h in g.next _ _ _ (p g.tree g.tabled) in let rows_long : (nr : List Float) → length nr ≡ length (its-rows) → length (with_rows c.loop-child.rows nr) ≡ length c.args.rows.now = λ nr e. same_len_mid (16 * c.loop-child.child) (16 * next - 16 * c.loop-child.child) c.loop-child.rows nr e ∙ c.loop-child.invariant.0 in let marks_long : (nm : List ℕ) → length nm ≡ length (its-marks) → length (with-marks c.loop-child.marks nm) ≡ length c.args.marks.now = λ nm e. same_len_mid (2 * c.loop-child.child) (2 * next - 2 * c.loop-child.child) c.loop-child.marks nm e ∙ c.loop-child.invariant.1 in let settled-placed : ChildPlaced c.settle-cursor.result c.settle-cursor.new.rows c.settle-cursor.new.marks = let flow_is = c.flow-flow.ensures ∙ flow_at_lem _ c.args.numbers.now (c.args.base + c.loop-child.child) in let f = turned in let again = settled-again c.loop-child.child (next) c.args.words.now c.loop-child.rows c.compute_child_layout-answer.new.rows c.loop-child.marks c.compute_child_layout-answer.new.marks f.some f.words_in_lem f.rows_long f.marks_long c.compute_child_layout-answer.auto.rows c.compute_child_layout-answer.auto.marks _ _ _ _ _ _ _ c.settle-cursor.ensures in in-placed _ c.args.numbers.now _ _ c.args.edits.now (c.args.base + c.loop-child.child) c.args.frame c.loop-child.cursor _ _ refl flow_is _ _ _ _ _ _ _ _ c.in-In.is c.plan_at-plan.ensures.input c.compute_child_layout-answer.ensures c.plan_at-plan.ensures.footing again in let nr = c.compute_child_layout-answer.new.rows in
     let nm = c.compute_child_layout-answer.new.marks in
-    let hr = c.compute_child_layout-answer.auto.1.1.0 in
-    let hm = c.compute_child_layout-answer.auto.1.1.1.0 in (
-      same_len_mid (16 * at-loop.loop.child) (16 * next t at-step - 16 * at-loop.loop.child) (with_rows t at-step at-loop.loop.rows nr) c.settle-cursor.new.rows c.settle-cursor.auto.0 ∙ rows_long t at-step nr hr,
-      same_len_mid (2 * at-loop.loop.child) (2 * next t at-step - 2 * at-loop.loop.child) (with-marks t at-step at-loop.loop.marks nm) c.settle-cursor.new.marks c.settle-cursor.auto.1.0 ∙ marks_long t at-step nm hm,
-      (turned t at-step).words_in_lem,
-      counted-on t at-step _ _ _ (settled-placed),
-      λ k h. let g = turning t at-step k h in rest-again at-loop.loop.child (next t at-step) s.args.words.now at-loop.loop.rows nr at-loop.loop.marks nm g.some g.words_in_lem g.rows_long g.marks_long hr hm s.args.numbers.now s.args.edits.now s.args.base s.args.frame k c.settle-cursor.result c.settle-cursor.new.rows c.settle-cursor.new.marks (rest-on t at-step _ _ _ (settled-placed) k h),
+    let hr = c.compute_child_layout-answer.auto.rows in
+    let hm = c.compute_child_layout-answer.auto.marks in (
+      same_len_mid (16 * c.loop-child.child) (16 * next - 16 * c.loop-child.child) (with_rows c.loop-child.rows nr) c.settle-cursor.new.rows c.settle-cursor.auto.rows ∙ rows_long nr hr,
+      same_len_mid (2 * c.loop-child.child) (2 * next - 2 * c.loop-child.child) (with-marks c.loop-child.marks nm) c.settle-cursor.new.marks c.settle-cursor.auto.marks ∙ marks_long nm hm,
+      (turned).words_in_lem,
+      counted-on _ _ _ (settled-placed),
+      λ k h. let g = turning k h in rest-again c.loop-child.child (next) c.args.words.now c.loop-child.rows nr c.loop-child.marks nm g.some g.words_in_lem g.rows_long g.marks_long hr hm c.args.numbers.now c.args.edits.now c.args.base c.args.frame k c.settle-cursor.result c.settle-cursor.new.rows c.settle-cursor.new.marks (rest-on _ _ _ (settled-placed) k h),
     )
 
 pub perform_final_layout_on_in_flow_children-loop-child-init : goal.perform_final_layout_on_in_flow_children-loop-child-init

@@ -49,7 +49,7 @@ decreases-compute_child_layout l = 3 * l.depth + 2
 
 abbrev pub invariant-perform_final_layout_on_in_flow_children-loop-child : goal.invariant-perform_final_layout_on_in_flow_children-loop-child
 invariant-perform_final_layout_on_in_flow_children-loop-child l = (length l.rows ≡ length l.initial.rows) × (length l.marks ≡ length l.initial.marks) × (4 * l.child ≤ length l.words) × ((l.cursor.count ≤ l.child) × (l.cursor.shown.0 ≤ l.child))
-  × ((k : Tree Cell) → TabledT l.words l.numbers l.initial.rows l.initial.marks l.edits l.base k → RestT l.words l.numbers l.rows l.marks l.edits l.base l.frame k l.cursor l.child)
+    × ((k : Tree Cell) → TabledT l.words l.numbers l.initial.rows l.initial.marks l.edits l.base k → RestT l.words l.numbers l.rows l.marks l.edits l.base l.frame k l.cursor l.child)
 
 abbrev pub decreases-perform_final_layout_on_in_flow_children-loop-child : goal.decreases-perform_final_layout_on_in_flow_children-loop-child
 decreases-perform_final_layout_on_in_flow_children-loop-child l = length l.words - l.child

@@ -13,12 +13,11 @@ pub loop-i-init : goal.loop-i-init
 loop-i-init c = (search rules, refl, refl)
 
 pub loop-i-preserved : goal.loop-i-preserved
-loop-i-preserved c = let l = c.loop-i in
-    (
-      search rules,
-      simp length-set l.invariant.1,
-      ap (λ (xs : List Float). set xs l.i zero_f) l.invariant.2 ∙ fill_more l.i zero_f c.args.rows.now (omega arith),
-    )
+loop-i-preserved c = let l = c.loop-i in (
+  search rules,
+  simp length-set l.invariant.1,
+  ap (λ (xs : List Float). set xs l.i zero_f) l.invariant.2 ∙ fill_more l.i zero_f c.args.rows.now (omega arith),
+)
 
 pub returns : goal.returns
 returns c = let l = c.loop-i in

@@ -11,12 +11,11 @@ pub loop-i-init : goal.loop-i-init
 loop-i-init c = (search rules, refl, refl)
 
 pub loop-i-preserved : goal.loop-i-preserved
-loop-i-preserved c = let l = c.loop-i in
-    (
-      search rules,
-      simp length-set l.invariant.1,
-      ap (λ (xs : List ℕ). set xs l.i 0) l.invariant.2 ∙ fill_more l.i 0 c.args.marks.now (omega arith),
-    )
+loop-i-preserved c = let l = c.loop-i in (
+  search rules,
+  simp length-set l.invariant.1,
+  ap (λ (xs : List ℕ). set xs l.i 0) l.invariant.2 ∙ fill_more l.i 0 c.args.marks.now (omega arith),
+)
 
 pub returns : goal.returns
 returns c = let l = c.loop-i in

@@ -33,11 +33,11 @@ loop-i-smaller c = let g = c.requires in
 
 pub loop-i-preserved : goal.loop-i-preserved
 loop-i-preserved c = let u = turn c.args.words.now [] c.loop-i.i c.loop-i.count _ c.word_in-size.ensures c.loop-i-test.true (c.loop-i.invariant.3 []) _ (c.flow_at-flow.ensures ∙ ap flow_at c.word_in.ensures) in (
-      omega (arith, u.on),
-      rw c.passed-i.ensures u.within,
-      rw (c.passed-i.ensures, c.counted-count.ensures) (less u.on u.most c.loop-i.invariant.2),
-      λ xs. rw (c.passed-i.ensures, c.counted-count.ensures) (turn c.args.words.now xs c.loop-i.i c.loop-i.count _ c.word_in-size.ensures c.loop-i-test.true (c.loop-i.invariant.3 xs) _ (c.flow_at-flow.ensures ∙ ap flow_at c.word_in.ensures)).next,
-    )
+  omega (arith, u.on),
+  rw c.passed-i.ensures u.within,
+  rw (c.passed-i.ensures, c.counted-count.ensures) (less u.on u.most c.loop-i.invariant.2),
+  λ xs. rw (c.passed-i.ensures, c.counted-count.ensures) (turn c.args.words.now xs c.loop-i.i c.loop-i.count _ c.word_in-size.ensures c.loop-i-test.true (c.loop-i.invariant.3 xs) _ (c.flow_at-flow.ensures ∙ ap flow_at c.word_in.ensures)).next,
+)
 
 pub returns : goal.returns
 returns c = λ xs. end c.args.words.now xs c.loop-i.i c.loop-i.count c.loop-i-test.false (c.loop-i.invariant.3 xs)

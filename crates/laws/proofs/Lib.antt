@@ -1,0 +1,15 @@
+pub mod AskOnce
+pub mod Blind
+pub mod Cheats
+pub mod Demand3
+pub mod Fix
+pub mod Good
+pub mod Learns
+pub mod Marks
+pub mod Probes
+pub mod Public
+pub mod Relayout
+pub mod Shrunk
+pub mod StepH
+pub mod Unread
+pub mod Chains
