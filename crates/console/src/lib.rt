@@ -1,7 +1,7 @@
 // Standard input and output for the programs: bytes and numbers, with no memory but what the caller lends.
 #![tactic(auto)]
 
-ghost use Rattle.std.specs.Prelude.{◌≤◌, length, take, IsTrue, decimal};
+ghost use Rattle.std.specs.Prelude.{◌≡◌, ◌≤◌, length, slice_index, EachIndex, take, IsTrue, decimal};
 ghost use Rattle.std.specs.Io.KnownBytes.{Appends, Consumes};
 ghost use Rattle.console.specs.Digits.{eight_hex};
 
@@ -12,6 +12,14 @@ pub fn write_all<W: Write>(to: &mut W, bytes: &[u8]) -> bool
     ensures { IsTrue result → Appends (W.contents to.old) (W.contents to.new) bytes.now }
 {
     to.write_all(bytes).is_ok()
+}
+
+// Zeros. A caller's proof knows them by these clauses: one that computed with half a million zeros would not end.
+pub fn room<const N: usize>() -> [u8; N]
+    ensures length { length result ≡ N }
+    ensures zeros { EachIndex result (λ k. slice_index result k ≡ 0) }
+{
+    [0; N]
 }
 
 // Reads until `room` is full, the input ends or a read fails: how many bytes now stand at its start.

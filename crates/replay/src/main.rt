@@ -3,9 +3,9 @@
 
 fn main(rt: HostRuntime) {
     // A byte more than a trace file may have, so that a longer one is seen to be too long.
-    let mut text = [0u8; 524288];
+    let mut text = console::room::<524288>();
     let n = console::read_full(&mut rt.stdin(), &mut text);
-    let mut out = [0u8; 327680];
+    let mut out = console::room::<327680>();
     let k = replays::replay_output(&text[..n], &mut out);
     if !console::write_all(&mut rt.stdout(), &out[..k]) {
         console::write_all(&mut rt.stderr(), b"replay: the output was lost\n");

@@ -40,8 +40,8 @@ fn run(to: Stdout, text: &[u8], out: &mut [u8]) {
 }
 
 fn main(rt: HostRuntime) {
-    let mut text = [0u8; 524288];
-    let mut out = [0u8; 327680];
+    let mut text = console::room::<524288>();
+    let mut out = console::room::<327680>();
     let n = console::read_full(&mut rt.stdin(), &mut text);
     run(rt.stdout(), &text[..n], &mut out);
 }

@@ -78,8 +78,8 @@ fn run_long(to: Stdout, text: &mut [u8], out: &mut [u8]) {
 }
 
 fn main(rt: HostRuntime) {
-    let mut text = [0u8; 524288];
-    let mut out = [0u8; 131072];
+    let mut text = console::room::<524288>();
+    let mut out = console::room::<131072>();
     let n = console::read_full(&mut rt.stdin(), &mut text);
     run(rt.stdout(), &text[..n], &mut out);
     run_long(rt.stdout(), &mut text, &mut out);

@@ -1,6 +1,5 @@
 use native.Mathlib.Omega.{arith}
 use lib.ListN.{length-take}
-use borrow.Author.Rules.{rules}
 use Rattle.coarses.proofs.cases.cut_case.Goals as goal
 
 pub slice_bounds-run_case-end-2 : goal.slice_bounds-run_case-end-2

@@ -1,6 +1,5 @@
 use Prim.Native.Nat.{◌≤◌, ◌-◌}
 use lib.ListN.{length}
-use borrow.Author.Rules.{rules}
 use Rattle.coarses.proofs.show.pixels.Given as goal
 
 abbrev pub invariant-loop-k : goal.invariant-loop-k

@@ -1,6 +1,5 @@
 use native.Mathlib.Omega.{arith}
 use lib.ListN.{length-take}
-use borrow.Author.Rules.{rules}
 use Rattle.indexes.proofs.cases.cut_index.Goals as goal
 
 pub slice_bounds-run_index-end-2 : goal.slice_bounds-run_index-end-2

@@ -1,6 +1,5 @@
 use native.Mathlib.Omega.{arith}
 use lib.ListN.{length-take}
-use borrow.Author.Rules.{rules}
 use Rattle.indexes.proofs.cases.cut_scroll.Goals as goal
 
 pub slice_bounds-run_scroll-end-2 : goal.slice_bounds-run_scroll-end-2

@@ -1,7 +1,6 @@
 use mathlib.Core.Path.{◌≡◌}
 use Prim.Native.Nat.{◌≤◌, ◌-◌}
 use lib.ListN.{length}
-use borrow.Author.Rules.{rules}
 use Rattle.indexes.proofs.cases.run.Given as goal
 
 abbrev pub invariant-loop-cases : goal.invariant-loop-cases
