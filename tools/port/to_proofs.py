@@ -66,7 +66,7 @@ def items(text):
             elif com:
                 com.append(line)
             continue
-        if line[0].isspace():
+        if line[0].isspace() or cur and line[0] in "})]":
             cur.append(line)
             continue
         words = line.split()

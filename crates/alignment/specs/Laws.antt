@@ -1,16 +1,13 @@
 -- A safe shift is never negative: over every align word and any free space, NaN and the infinities too. Assumes nothing.
-use Rattle.std.specs.Prelude.{◌≡◌, refl, Bool, true, false, cond, ◌⊎◌, ℕ, zero, suc, ◌+◌, ◌*◌, ◌^◌, ◌≤◌, ◌<◌, ltb, ℤ, pos, Float}
-use Rattle.std.proofs.Common.{sym, ap, ◌∙◌, true≢false, inl, inr, zero-le, zero-mul, mul-one, mul-pos, zero-lt-suc, arith, ltb-false, le-ltb}
+use Rattle.std.specs.Prelude.{◌≡◌, refl, Bool, true, false, cond, ℕ, zero, suc, ◌+◌, ◌*◌, ◌^◌, ◌≤◌, ◌<◌, ltb, ℤ, pos, Float}
+use Rattle.std.proofs.Common.{sym, ap, ◌∙◌, true≢false, zero-le, zero-mul, mul-one, mul-pos, zero-lt-suc, arith, ltb-false, le-ltb}
 use Rattle.std.specs.Float.{nan, inf, fin, binary32}
 use Rattle.std.specs.Float.Ieee.{up, down, lt, odd, units, round, div, of_bits}
 use Rattle.std.specs.Float.Ieee.Fits.{down_pos, round_is}
 use Rattle.std.specs.Float.Ieee.Scale.{round_same}
 use Rattle.geometry.specs.Geometry.{zero_f}
 use Rattle.geometry.specs.Floats.{◌⊘◌}
-use Rattle.util.specs.Maybe.{or_zero}
-use Rattle.style.specs.declared.AlignContent.{AlignContent}
-use Rattle.style.specs.declared.AlignContent.TheVariants.{Normal, Start, Center, End, SpaceBetween, SpaceAround, SpaceEvenly, Stretch}
-use Rattle.alignment.specs.Align.{two_f, room_of, align_shift}
+use Rattle.alignment.specs.Align.{two_f, room_of}
 
 -- ---- half of what is not negative is not negative
 
@@ -48,7 +45,7 @@ zero_rounds : (num den : ℕ) → num ≡ 0 → 0 < den → lt (round binary32 t
 zero_rounds num den z h =
     ap (λ (x : Float). lt x zero_f) (round_same binary32 true num den 0 1 h (zero-lt-suc 0) (mul-one num ∙ z ∙ sym (zero-mul den))) ∙ zero_is
 
-half_not_below : (x : Float) → lt x zero_f ≡ false → lt (x ⊘ two_f) zero_f ≡ false
+pub half_not_below : (x : Float) → lt x zero_f ≡ false → lt (x ⊘ two_f) zero_f ≡ false
 unfolding div lt of_bits
 half_not_below nan h = refl
 half_not_below (inf false) h = refl
@@ -61,39 +58,14 @@ half_not_below (fin true m e) h = zero_rounds (m * up e * 1) (2 * down e) (none_
 
 -- ---- the rule
 
-nothing_below : lt zero_f zero_f ≡ false
+pub nothing_below : lt zero_f zero_f ≡ false
 unfolding lt of_bits
 nothing_below = refl
 
-room_not_below : (x : Float) → lt (room_of true x) zero_f ≡ false
+pub room_not_below : (x : Float) → lt (room_of true x) zero_f ≡ false
 unfolding room_of
 room_not_below x = go (lt x zero_f) refl
   where
     go : (t : Bool) → lt x zero_f ≡ t → lt (cond t zero_f x) zero_f ≡ false
     go true e = nothing_below
     go false e = e
-
--- Safe, the shift is never negative, whatever the word.
-pub never_negative : (a : AlignContent) (free : Float) → lt (or_zero (align_shift a true free)) zero_f ≡ false
-unfolding align_shift or_zero
-never_negative Normal free = nothing_below
-never_negative Start free = nothing_below
-never_negative Center free = half_not_below (room_of true free) (room_not_below free)
-never_negative End free = room_not_below free
-never_negative SpaceBetween free = nothing_below
-never_negative SpaceAround free = half_not_below (room_of true free) (room_not_below free)
-never_negative SpaceEvenly free = half_not_below (room_of true free) (room_not_below free)
-never_negative Stretch free = nothing_below
-
--- a word that shifts by a negative number is center or end, and is not safe
-pub only_unsafe : (a : AlignContent) (safe : Bool) (free : Float) → lt (or_zero (align_shift a safe free)) zero_f ≡ true → (safe ≡ false) × ((a ≡ Center) ⊎ (a ≡ End))
-unfolding align_shift
-only_unsafe a true free h = absurd (true≢false (sym h ∙ never_negative a free))
-only_unsafe Center false free h = (refl, inl refl)
-only_unsafe End false free h = (refl, inr refl)
-only_unsafe Normal false free h = absurd (true≢false (sym h ∙ never_negative Normal free))
-only_unsafe Start false free h = absurd (true≢false (sym h ∙ never_negative Start free))
-only_unsafe SpaceBetween false free h = absurd (true≢false (sym h ∙ never_negative SpaceBetween free))
-only_unsafe SpaceAround false free h = absurd (true≢false (sym h ∙ never_negative SpaceAround free))
-only_unsafe SpaceEvenly false free h = absurd (true≢false (sym h ∙ never_negative SpaceEvenly free))
-only_unsafe Stretch false free h = absurd (true≢false (sym h ∙ never_negative Stretch free))

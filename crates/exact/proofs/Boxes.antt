@@ -19,7 +19,8 @@ use Rattle.profile.specs.Profile.{whole_length, whole_option}
 use Rattle.profile.specs.Page.{WholeSize, WholeRect, InProfile}
 use Rattle.exact.specs.Near.{Near, plus_is, MayIs, none_is, some_is, or_zero_is}
 use Rattle.exact.specs.Read.{length_z, option_z, size_z, rect_z, style_z}
-use Rattle.exact.specs.Boxes.{no, pixel_is, RectIs, SizeIs, BoxIs, boxed_is, plus_rect_is, gutter_is}
+use Rattle.exact.specs.Boxes.{no, pixel_is, RectIs, SizeIs, BoxIs, boxed_is, plus_rect_is}
+use Rattle.exact.proofs.BoxesLaws.{gutter_is}
 
 pub length_is : (l : Length) (b : OptionF32) → whole_length l ≡ true → MayIs 1024 (resolved l b) (length_z l)
 unfolding resolved

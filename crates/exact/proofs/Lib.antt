@@ -8,3 +8,4 @@ pub mod Fresh
 pub mod FreshExact
 pub mod Widths
 pub mod Probes
+pub mod BoxesLaws

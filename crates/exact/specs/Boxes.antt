@@ -12,12 +12,12 @@ use Rattle.util.specs.declared.OptionSize.{OptionSize}
 use Rattle.style.specs.declared.Overflow.{Overflow}
 use Rattle.style.specs.declared.Overflow.TheVariants.{Visible, Clip, Hidden, Scroll}
 use Rattle.style.specs.declared.Style.{Style}
-use Rattle.steps.specs.Sizing.{decided, known_axis, step_b, filled, step_d, known_of, bar_of, gutter}
+use Rattle.steps.specs.Sizing.{decided, known_axis, step_b, filled, step_d, known_of, bar_of}
 use Rattle.steps.specs.declared.Sizing.{Sizing}
 use Rattle.whole.specs.Test.{pixel, number}
 use Rattle.whole.specs.Range.{within_le, pixel_within, zero_is}
 use Rattle.integers.specs.Numbers.{MayZ, NoneZ, SomeZ, SizeMay, RectZ, across_z, down_z, plus_z}
-use Rattle.integers.specs.Boxes.{BoxZ, box_size_z, box_both_z, box_of_z, decided_z, known_axis_z, known_z, bar_of_z, gutter_z}
+use Rattle.integers.specs.Boxes.{BoxZ, box_size_z, box_both_z, box_of_z, decided_z, known_axis_z, known_z, bar_of_z}
 use Rattle.profile.specs.Page.{InProfile}
 use Rattle.exact.specs.Near.{Near, wide, plus_is, MayIs, none_is, some_is, wide_may, or_else_is, add_opt_is, clamp_opt_is, floor_opt_is}
 use Rattle.exact.specs.Read.{style_z}
@@ -114,7 +114,7 @@ unfolding known_of
 known_is s {z} p q r u v = step_d_is s z p.ratio (step_b_is q r u v)
 
 -- ---- E
-bar_is : (o : Overflow) {x : Float} {k : ℤ} → Near x k 1024 → Near (bar_of o x) (bar_of_z o k) 1024
+pub bar_is : (o : Overflow) {x : Float} {k : ℤ} → Near x k 1024 → Near (bar_of o x) (bar_of_z o k) 1024
 unfolding bar_of bar_of_z
 bar_is Visible p = zero_is
 bar_is Clip p = zero_is
@@ -127,17 +127,6 @@ near_cond false p q = q
 
 pub near_test : {s t : Bool} {x y : Float} {a b : ℤ} {n : ℕ} → s ≡ t → Near x a n → Near y b n → Near (cond s x y) (cond t a b) n
 near_test {s} {t} e p q = rw e (near_cond t p q)
-
-pub gutter_is : (s : Style) → InProfile s → RectIs (gutter s) (gutter_z (style_z s)) 0 1024 1024
-unfolding gutter gutter_z style_z
-gutter_is s p =
-    let b = pixel_is s.scrollbar p.scrollbar in
-    record {
-      top = zero_is;
-      right = near_cond s.rtl zero_is (bar_is s.overflow.y b);
-      bottom = bar_is s.overflow.x b;
-      left = near_cond s.rtl (bar_is s.overflow.y b) zero_is;
-    }
 
 pub box_both : (s : Style) → (box_of_z (style_z s)).both ≡ box_both_z (style_z s)
 unfolding box_of_z

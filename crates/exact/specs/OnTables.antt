@@ -30,7 +30,8 @@ use Rattle.integers.specs.Candidates.{candidates_z}
 use Rattle.integers.specs.Results.{rows_out_z, marks_out_z, candidate_words_z, candidate_numbers_z}
 use Rattle.profile.specs.Profile.{profile_spot}
 use Rattle.profile.specs.Exact.{yes_told}
-use Rattle.profile.specs.Page.{ProfilePage, ProfileQuestion, question_in, page_in}
+use Rattle.profile.specs.Page.{ProfilePage, ProfileQuestion, question_in}
+use Rattle.profile.proofs.Page.{page_in}
 use Rattle.exact.specs.Read.{input_z, page_z}
 use Rattle.exact.specs.Trees.{RelT}
 use Rattle.exact.specs.Widths.{Holds}

@@ -20,18 +20,18 @@ use Rattle.steps.specs.Stack.{inner_width, start_of, item_of, asked_width, child
 use Rattle.steps.specs.Height.{extra_of, step_k, step_l, held_open, still_own_end, step_m}
 use Rattle.steps.specs.Through.{step_n, output_of, finished, leaf_output}
 use Rattle.steps.specs.Probe.{width_pass}
-use Rattle.steps.specs.Kept.{Laid, zeros_f}
-use Rattle.steps.specs.Layout.{Stacked, leaf_laid, block_laid, skip, aside, place, lower_f, align_f, lay_t, lay_f, ask_t, relaid, fresh}
+use Rattle.steps.specs.Kept.{Laid}
+use Rattle.steps.specs.Layout.{Stacked, leaf_laid, block_laid, skip, aside, place, lower_f, align_f, lay_t, lay_f, ask_t}
 use Rattle.steps.specs.declared.LayoutInput.{LayoutInput}
 use Rattle.steps.specs.declared.LayoutOutput.{LayoutOutput}
 use Rattle.steps.specs.declared.Question.{Question}
 use Rattle.steps.specs.declared.Frame.{Frame}
 use Rattle.steps.specs.declared.Cursor.{Cursor}
 use Rattle.steps.specs.declared.BlockItem.{BlockItem}
-use Rattle.steps.proofs.Clauses.{style_t, by_test, by_flow, lay_t_leaf, lay_t_block, lay_f_none, lay_f_gone, lay_f_out, lay_f_in, ask_t_new}
+use Rattle.steps.proofs.Clauses.{style_t, by_test, by_flow, lay_f_gone, lay_f_out, lay_f_in, ask_t_new}
 use Rattle.steps.proofs.Cells.{pass_cells, cell_in}
 use Rattle.steps.proofs.Zeros.{no_row_lem, unlaid_kept}
-use Rattle.laws.specs.Trees.{AllT, AllF, all-T, all-and-T, all-map-T, all-back-T}
+use Rattle.laws.specs.Trees.{AllT, all-T, all-and-T, all-map-T, all-back-T}
 use Rattle.laws.specs.Small.{Small, pass_small}
 use Rattle.percent.specs.Parts.{NoHeightParts, whole_sizing, whole_offset}
 
@@ -101,14 +101,14 @@ pub record SameStack (a b : Stacked) : Type 0 where
 abbrev frame_b : Node → LayoutInput → Float → Frame
 frame_b l q found = no_basis (frame_of l.site.style q found)
 
-abbrev box_b : Node → Forest Node → LayoutInput → Float → Laid
+abbrev pub box_b : Node → Forest Node → LayoutInput → Float → Laid
 box_b l ks q found = block_laid l q (frame_b l q found) (before_f ks (frame_b l q found) (start_of (frame_b l q found)))
 
 before_t_by : (l : Node) (ks : Forest Node) (q : LayoutInput) (found : Float) → before_t (node l ks) q found ≡ by_test (is_leaf l.site.style.kind) (leaf_laid l q ks) (box_b l ks q found)
 unfolding before_t
 before_t_by l ks q found = refl
 
-before_t_at : (l : Node) (ks : Forest Node) (q : LayoutInput) (found : Float) (b : Bool) → is_leaf l.site.style.kind ≡ b → before_t (node l ks) q found ≡ by_test b (leaf_laid l q ks) (box_b l ks q found)
+pub before_t_at : (l : Node) (ks : Forest Node) (q : LayoutInput) (found : Float) (b : Bool) → is_leaf l.site.style.kind ≡ b → before_t (node l ks) q found ≡ by_test b (leaf_laid l q ks) (box_b l ks q found)
 before_t_at l ks q found b e = before_t_by l ks q found ∙ ap (λ (b : Bool). by_test b (leaf_laid l q ks) (box_b l ks q found)) e
 
 abbrev place_b : Tree Node → Forest Node → Frame → Cursor → Stacked
@@ -122,12 +122,12 @@ before_f_at : (t : Tree Node) (ts : Forest Node) (f : Frame) (c : Cursor) (w : F
     → before_f (more t ts) f c ≡ by_flow w (skip c t (before_f ts f)) (aside f c t (before_f ts f)) (place_b t ts f c)
 before_f_at t ts f c w e = before_f_by t ts f c ∙ ap (λ (v : Flow). by_flow v (skip c t (before_f ts f)) (aside f c t (before_f ts f)) (place_b t ts f c)) e
 
-before_f_none : (f : Frame) (c : Cursor) → before_f none f c ≡ record { last = c; rows = none }
+pub before_f_none : (f : Frame) (c : Cursor) → before_f none f c ≡ record { last = c; rows = none }
 unfolding before_f
 before_f_none f c = refl
 
 -- a question without its basis
-abbrev unbased : LayoutInput → LayoutInput
+abbrev pub unbased : LayoutInput → LayoutInput
 unbased q =
     record {
       known = q.known;
@@ -141,7 +141,7 @@ unbased q =
     }
 
 -- the frame, and what is asked in it
-frame_same : (s : Style) (q : LayoutInput) (found : Float) → NoHeightParts s → no_basis (frame_of s q found) ≡ no_basis (frame_of s (unbased q) found)
+pub frame_same : (s : Style) (q : LayoutInput) (found : Float) → NoHeightParts s → no_basis (frame_of s q found) ≡ no_basis (frame_of s (unbased q) found)
 unfolding frame_of step_i
 frame_same s q found n = rw (whole_sizing s q.parent q.basis None n.sizes)
 
@@ -159,7 +159,7 @@ unfolding question_to
 question_same f s n = asked_same f s (item_of f s) ∙ ap (child_input (no_basis f) s) (item_same f s n)
 
 -- no other step reads it
-start_same : (f : Frame) → start_of f ≡ start_of (no_basis f)
+pub start_same : (f : Frame) → start_of f ≡ start_of (no_basis f)
 unfolding start_of
 start_same f = refl
 
@@ -179,11 +179,11 @@ edges_same : (f : Frame) → edges_of f ≡ edges_of (no_basis f)
 unfolding edges_of
 edges_same f = refl
 
-finish_same : (s : Style) (q : LayoutInput) (f : Frame) (c : Cursor) → finished s q f c ≡ finished s (unbased q) (no_basis f) c
+pub finish_same : (s : Style) (q : LayoutInput) (f : Frame) (c : Cursor) → finished s q f c ≡ finished s (unbased q) (no_basis f) c
 unfolding finished output_of step_k extra_of at_top step_l held_open still_own_end step_m step_n
 finish_same s q f c = refl
 
-leaf_same : (l : Node) (q : LayoutInput) → leaf_output l.site.style.measure q ≡ leaf_output l.site.style.measure (unbased q)
+pub leaf_same : (l : Node) (q : LayoutInput) → leaf_output l.site.style.measure q ≡ leaf_output l.site.style.measure (unbased q)
 unfolding leaf_output
 leaf_same l q = refl
 
@@ -201,7 +201,7 @@ low_bits t g c h =
     let y = bit_small g in
     omega arith
 
-row_same : (q : LayoutInput) (o : LayoutOutput) (p : ProbeWords) → p.code < 16 → forgot (laid_row q o p) ≡ forgot (laid_row (unbased q) o p)
+pub row_same : (q : LayoutInput) (o : LayoutOutput) (p : ProbeWords) → p.code < 16 → forgot (laid_row q o p) ≡ forgot (laid_row (unbased q) o p)
 unfolding laid_row or_zero is_some
 row_same q o p h =
     rw (no_bit (1 + 2 * bit o.through + 8 * bit (is_some q.known.height) + 16 * p.code) (bit (is_some q.basis)) (bit (is_some o.baseline)) (low_bits o.through (is_some q.known.height) p.code h) (bit_small (is_some q.basis)))
@@ -240,46 +240,17 @@ unfolding align_f
 align_forgot None ts = refl
 align_forgot (Some d) ts = lower_f_lem d ts
 
-align_same : (d : OptionF32) (ts us : Forest Row) → map_f forgot ts ≡ map_f forgot us → map_f forgot (align_f d ts) ≡ map_f forgot (align_f d us)
+pub align_same : (d : OptionF32) (ts us : Forest Row) → map_f forgot ts ≡ map_f forgot us → map_f forgot (align_f d ts) ≡ map_f forgot (align_f d us)
 align_same d ts us e = align_forgot d ts ∙ ap (align_f d) e ∙ sym (align_forgot d us)
 
 put_same : (p : Point) (n : ℕ) (t u : Tree Row) → map_t forgot t ≡ map_t forgot u → map_t forgot (on_root (put_at p n) t) ≡ map_t forgot (on_root (put_at p n) u)
 put_same p n t u e = put_forgot p n t ∙ ap (on_root (put_at p n)) e ∙ sym (put_forgot p n u)
-
--- one node
-leaf_node : (l : Node) (q : LayoutInput) (ks : Forest Node) → Small l → SameLaid (leaf_laid l q ks) (leaf_laid l (unbased q) ks)
-unfolding leaf_laid map_t
-leaf_node l q ks v = record {
-  same_out = leaf_same l q;
-  same_rows = ap (λ (r : Row). node r (map_f forgot (zeros_f ks))) (row_same q (leaf_output l.site.style.measure q) l.probe v ∙ ap (λ (o : LayoutOutput). forgot (laid_row (unbased q) o l.probe)) (leaf_same l q));
-}
-
-box_node : (l : Node) (q : LayoutInput) (f : Frame) (a b : Stacked) → Small l → SameStack a b → SameLaid (block_laid l q f a) (block_laid l (unbased q) (no_basis f) b)
-unfolding block_laid map_t
-box_node l q f a b v h =
-    let s = l.site.style in
-    let d = finish_same s q f a.last ∙ ap (finished s (unbased q) (no_basis f)) h.same_last in
-    let e = row_same q (finished s q f a.last).output l.probe v in
-    record {
-      same_out = ap (λ x. x.output) d;
-      same_rows = rw (e, align_same (finished s q f a.last).shift a.rows b.rows h.same_rows) (ap (λ x. node (forgot (laid_row (unbased q) x.output l.probe)) (map_f forgot (align_f x.shift b.rows))) d);
-    }
 
 -- a node of a fresh page without such fractions
 pub record Plain (n : Node) : Type 0 where
   pub parts : NoHeightParts n.site.style
   pub unlaid : is_laid n.old ≡ false
   pub small : Small n
-
-lay_node : (l : Node) (ks : Forest Node) (q : LayoutInput) (found : Float) → Plain l → ((f : Frame) (c : Cursor) → SameStack (lay_f ks f c) (before_f ks (no_basis f) c))
-    → SameLaid (lay_t (node l ks) q found) (before_t (node l ks) (unbased q) found)
-lay_node l ks q found n h = go (is_leaf l.site.style.kind) refl
-  where
-    go : (b : Bool) → is_leaf l.site.style.kind ≡ b → SameLaid (lay_t (node l ks) q found) (before_t (node l ks) (unbased q) found)
-    go true e = rw (lay_t_leaf l ks q found e, before_t_at l ks (unbased q) found true e) (leaf_node l q ks n.small)
-    go false e =
-        let f : Frame = frame_of l.site.style q found in
-        rw (lay_t_block l ks q found e, before_t_at l ks (unbased q) found false e, ← frame_same l.site.style q found n.parts, ← start_same f) (box_node l q f _ _ n.small (h f (start_of f)))
 
 -- one child
 skip_same : (c : Cursor) (t : Tree Node) (g h : Cursor → Stacked) → SameStack (g (past_hidden c)) (h (past_hidden c)) → SameStack (skip c t g) (skip c t h)
@@ -314,7 +285,7 @@ place_node f c s a b g h n x k =
 asked_new : (t : Tree Node) (q : LayoutInput) → is_laid (root_t t).old ≡ false → ask_t t q ≡ lay_t t q zero_f
 asked_new t q e = ask_t_new t q (unlaid_kept t q e)
 
-more_same : (t : Tree Node) (ts : Forest Node) (f : Frame) (c : Cursor) → Plain (root_t t) → ((q : LayoutInput) → SameLaid (lay_t t q zero_f) (before_t t (unbased q) zero_f)) → ((d : Cursor) → SameStack (lay_f ts f d) (before_f ts (no_basis f) d))
+pub more_same : (t : Tree Node) (ts : Forest Node) (f : Frame) (c : Cursor) → Plain (root_t t) → ((q : LayoutInput) → SameLaid (lay_t t q zero_f) (before_t t (unbased q) zero_f)) → ((d : Cursor) → SameStack (lay_f ts f d) (before_f ts (no_basis f) d))
     → SameStack (lay_f (more t ts) f c) (before_f (more t ts) (no_basis f) c)
 more_same t ts f c n h k = go (flow_of (style_t t)) refl
   where
@@ -325,25 +296,15 @@ more_same t ts f c n h k = go (flow_of (style_t t)) refl
         rw (lay_f_in t ts f c e, before_f_at t ts (no_basis f) c In e, asked_new t (question_to f (style_t t)) n.unlaid, ← question_same f (style_t t) n.parts)
         (place_node f c (style_t t) _ _ _ _ n.parts (h (question_to f (style_t t))) k)
 
-plain_root : (t : Tree Node) → AllT Plain t → Plain (root_t t)
+pub plain_root : (t : Tree Node) → AllT Plain t → Plain (root_t t)
 unfolding AllT root_t
 plain_root (node l ks) h = h.0
-
-mutual
-  unfolding AllT
-
-  same_t : (t : Tree Node) → AllT Plain t → (q : LayoutInput) (found : Float) → SameLaid (lay_t t q found) (before_t t (unbased q) found)
-  same_t (node l ks) h q found = lay_node l ks q found h.0 (λ f c. same_f_lem ks h.1 f c)
-
-  same_f_lem : (ts : Forest Node) → AllF Plain ts → (f : Frame) (c : Cursor) → SameStack (lay_f ts f c) (before_f ts (no_basis f) c)
-  same_f_lem none h f c = rw (lay_f_none f c, before_f_none (no_basis f) c) (record { same_last = refl; same_rows = refl })
-  same_f_lem (more t ts) h f c = more_same t ts f c (plain_root t h.0) (λ q. same_t t h.0 q zero_f) (λ d. same_f_lem ts h.1 f d)
 
 -- the nodes that the width pass gives the final pass
 abbrev pub NoPartsAt : Site → Type 0
 NoPartsAt s = NoHeightParts s.style
 
-plain_nodes : (t : Tree Site) (q : LayoutInput) → AllT NoPartsAt t → AllT Plain (width_pass (map_t blank t) q).nodes
+pub plain_nodes : (t : Tree Site) (q : LayoutInput) → AllT NoPartsAt t → AllT Plain (width_pass (map_t blank t) q).nodes
 unfolding blank
 plain_nodes t q h =
     let a : AllT PlainC (map_t blank t) = all-back-T blank PlainC t (all-T NoPartsAt (λ (s : Site). PlainC (blank s)) (λ s n. (n, no_row_lem)) t h) in
@@ -354,13 +315,6 @@ plain_nodes t q h =
     PlainC : Cell → Type 0
     PlainC c = NoHeightParts c.site.style × (is_laid c.old ≡ false)
 
-root_same : (q : Question) → unbased (root_input q) ≡ root_input q
+pub root_same : (q : Question) → unbased (root_input q) ≡ root_input q
 unfolding root_input
 root_same q = refl
-
--- ---- Without a fraction in fields 1, 3, 5, 18 and 20: the answer as before, and each row but for number 14 and bit 8.
-pub as_before : (t : Tree Site) (q : Question) → AllT NoPartsAt t → SameLaid (fresh t (root_input q)) (before t (root_input q))
-unfolding fresh relaid before
-as_before t q h =
-    let p = width_pass (map_t blank t) (root_input q) in
-    rw (root_same q) at (same_t p.nodes (plain_nodes t (root_input q) h) (root_input q) p.found)

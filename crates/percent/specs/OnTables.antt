@@ -1,5 +1,5 @@
 -- The two theorems of lent tables: what the tables say of each node, and what the tests before any write grant.
-use Rattle.std.specs.Prelude.{◌≡◌, refl, Bool, true, false, cond, not, ◌&&◌, List, [], ℕ, zero, suc, ◌<◌, eqb, Float}
+use Rattle.std.specs.Prelude.{◌≡◌, refl, Bool, true, false, cond, not, ◌&&◌, List, ℕ, zero, suc, eqb, Float}
 use Rattle.std.proofs.Common.{sym, ap, ◌∙◌, arith}
 use Rattle.std.specs.Float.Ieee.{eq}
 use Rattle.geometry.specs.Geometry.{zero_f}
@@ -7,23 +7,12 @@ use Rattle.limits.specs.Bools.{or_left, or_right}
 use Rattle.util.specs.Maybe.{is_some}
 use Rattle.style.specs.Codes.{length_of, ratio_of}
 use Rattle.style.specs.Style.{number_at, length_at, size_at, rect_at, style_at}
-use Rattle.tree.specs.Tree.{map_t}
-use Rattle.steps.specs.Page.{site_at, nodes_in, page_of}
-use Rattle.steps.specs.Question.{root_input}
-use Rattle.steps.specs.Noes.{bad_tables, fraction_at, ratio_beside_fraction, bad_style, page_tested}
-use Rattle.steps.specs.Layout.{fresh}
+use Rattle.steps.specs.Page.{site_at}
+use Rattle.steps.specs.Noes.{fraction_at, ratio_beside_fraction, bad_style}
 use Rattle.util.specs.declared.OptionF32.TheVariants.{None, Some}
-use Rattle.steps.specs.declared.Question.{Question}
-use Rattle.steps.specs.declared.Tested.TheVariants.{Pass}
-use Rattle.tables.proofs.Passing.{sized, page_passes}
-use Rattle.tables.proofs.ScanLaws.{never, lowest-nowhere}
-use Rattle.laws.specs.Trees.{AllT}
-use Rattle.laws.specs.Parsed.{all_parse}
+use Rattle.tables.proofs.ScanLaws.{never}
 use Rattle.percent.specs.Parts.{is_part, NoParts, NoHeightParts}
-use Rattle.percent.specs.Before.{SameLaid, before, NoPartsAt, as_before}
-use Rattle.percent.specs.Widths.{across_of, RatioAlone}
-use Rattle.percent.specs.Probes.{auto_site}
-use Rattle.percent.specs.NoWidth.{AloneAt, no_width_moves}
+use Rattle.percent.specs.Widths.{RatioAlone}
 
 whole_unit : (k : ℕ) (x : Float) → eqb k 2 ≡ false → is_part (length_of k x) ≡ false
 unfolding length_of
@@ -40,7 +29,7 @@ no_parts : (ws : List ℕ) (xs : List Float) (i : ℕ) → fraction_at ws i 1 �
 unfolding style_at size_at
 no_parts ws xs i a b c = record { size = whole_at ws xs i 1 a; min = whole_at ws xs i 3 b; max = whole_at ws xs i 5 c }
 
-site_style : (ws : List ℕ) (xs : List Float) (es : List ℕ) (i : ℕ) → (site_at ws xs es 0 i).label.style ≡ style_at ws i xs i
+pub site_style : (ws : List ℕ) (xs : List Float) (es : List ℕ) (i : ℕ) → (site_at ws xs es 0 i).label.style ≡ style_at ws i xs i
 unfolding site_at
 site_style ws xs es i = ap (style_at ws i xs) (omega arith)
 
@@ -52,18 +41,9 @@ pub record PlainHeights (ws : List ℕ) (i : ℕ) : Type 0 where
   pub top : fraction_at ws i 18 ≡ false
   pub bottom : fraction_at ws i 20 ≡ false
 
-plain_at : (ws : List ℕ) (xs : List Float) (i : ℕ) → PlainHeights ws i → NoHeightParts (style_at ws i xs i)
+pub plain_at : (ws : List ℕ) (xs : List Float) (i : ℕ) → PlainHeights ws i → NoHeightParts (style_at ws i xs i)
 unfolding style_at rect_at
 plain_at ws xs i h = record { sizes = no_parts ws xs i h.height h.min h.max; top = whole_at ws xs i 18 h.top; bottom = whole_at ws xs i 20 h.bottom }
-
-plain_page : (ws : List ℕ) (xs : List Float) (es : List ℕ) → 0 < nodes_in ws → ((i : ℕ) → i < nodes_in ws → PlainHeights ws i) → AllT NoPartsAt (page_of ws xs es)
-unfolding page_of
-plain_page ws xs es p h = all_parse NoPartsAt (site_at ws xs es 0) (nodes_in ws) p (λ i l. rw (site_style ws xs es i) (plain_at ws xs i (h i l)))
-
--- Tables without such a fraction: a fresh layout answers as before, and leaves the rows that it left, but for number 14 and bit 8.
-pub tables_as_before : (ws : List ℕ) (xs : List Float) (q : Question) → 0 < nodes_in ws → ((i : ℕ) → i < nodes_in ws → PlainHeights ws i)
-    → SameLaid (fresh (page_of ws xs []) (root_input q)) (before (page_of ws xs []) (root_input q))
-tables_as_before ws xs q p h = as_before (page_of ws xs []) q (plain_page ws xs [] p h)
 
 -- ---- refusal 3 keeps ratios and such fractions apart
 ratio_told : (x : Float) → is_some (ratio_of x) ≡ true → eq x zero_f ≡ false
@@ -78,21 +58,10 @@ beside : (a b : Bool) → a ≡ false → (not a && b) ≡ false → b ≡ false
 beside true b p e = never p
 beside false b p e = e
 
-alone_at : (ws : List ℕ) (xs : List Float) (i : ℕ) → bad_style ws xs i ≡ false → RatioAlone (style_at ws i xs i)
+pub alone_at : (ws : List ℕ) (xs : List Float) (i : ℕ) → bad_style ws xs i ≡ false → RatioAlone (style_at ws i xs i)
 unfolding bad_style ratio_beside_fraction style_at
 alone_at ws xs i e r =
     let z = ratio_told (number_at xs i 22) r in
     let a = beside (eq (number_at xs i 22) zero_f) _ z (or_left (ratio_beside_fraction ws xs i) _ e) in
     let b = or_right (fraction_at ws i 1) _ a in
     no_parts ws xs i (or_left (fraction_at ws i 1) _ a) (or_left (fraction_at ws i 3) _ b) (or_right (fraction_at ws i 3) _ b)
-
-alone_page : (ws : List ℕ) (xs : List Float) (es : List ℕ) → 0 < nodes_in ws → ((i : ℕ) → i < nodes_in ws → bad_style ws xs i ≡ false) → AllT AloneAt (page_of ws xs es)
-unfolding page_of
-alone_page ws xs es p h = all_parse AloneAt (site_at ws xs es 0) (nodes_in ws) p (λ i l. rw (site_style ws xs es i) (alone_at ws xs i (h i l)))
-
--- Tables that pass the tests: with the fractions of fields 1, 3 and 5 auto, a fresh layout leaves the same numbers 0, 2, 8 and 10 to 13 in every row.
-pub no_width_moves_on_tables : (ws : List ℕ) (xs : List Float) (q : Question) → bad_tables ws xs ≡ false → page_tested ws xs (root_input q) ≡ Pass
-    → map_t across_of (fresh (page_of ws xs []) (root_input q)).rows ≡ map_t across_of (fresh (map_t auto_site (page_of ws xs [])) (root_input q)).rows
-no_width_moves_on_tables ws xs q b e =
-    let p = page_passes ws xs (root_input q) e in
-    no_width_moves (page_of ws xs []) q (alone_page ws xs [] (sized ws xs b).some (lowest-nowhere (bad_style ws xs) (nodes_in ws) p.codes))

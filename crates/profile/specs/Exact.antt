@@ -8,7 +8,7 @@ use Rattle.steps.specs.declared.LayoutInput.{LayoutInput}
 use Rattle.steps.specs.declared.Spot.{Spot}
 use Rattle.steps.specs.declared.Spot.TheVariants.{Nowhere, At}
 use Rattle.tables.specs.Refusals.{Lowest}
-use Rattle.tables.proofs.ScanLaws.{first-at, at_first, first-nowhere, nowhere-first}
+use Rattle.tables.proofs.ScanLaws.{at_first, first-nowhere, nowhere-first}
 use Rattle.profile.specs.Profile.{of_profile, outside, whole_question, else_at, profile_spot}
 
 -- every node is of the profile
@@ -23,7 +23,7 @@ told_in : (ws : List ℕ) (xs : List Float) (i : ℕ) → outside ws xs i ≡ fa
 unfolding outside
 told_in ws xs i e = not-false (of_profile ws xs i) e
 
-in_told : (ws : List ℕ) (xs : List Float) (i : ℕ) → of_profile ws xs i ≡ true → outside ws xs i ≡ false
+pub in_told : (ws : List ℕ) (xs : List Float) (i : ℕ) → of_profile ws xs i ≡ true → outside ws xs i ≡ false
 unfolding outside
 in_told ws xs i e = ap not e
 
@@ -58,23 +58,15 @@ unfolding profile_spot
 node_no ws xs q k l = node_spot (first_of (outside ws xs) (nodes_in ws)) (whole_question q) (nodes_in ws) k (at_first (outside ws xs) (nodes_in ws) k l)
 
 -- no at n: the question alone is not
-asked_spot : (s : Spot) (b : Bool) (n : ℕ) → s ≡ Nowhere → b ≡ false → else_at s b n ≡ At n
+pub asked_spot : (s : Spot) (b : Bool) (n : ℕ) → s ≡ Nowhere → b ≡ false → else_at s b n ≡ At n
 unfolding else_at
 asked_spot s b n e f = rw (e, f)
 
-pub question_no : (ws : List ℕ) (xs : List Float) (q : LayoutInput) → NodesIn ws xs → whole_question q ≡ false → profile_spot ws xs q ≡ At (nodes_in ws)
-unfolding profile_spot
-question_no ws xs q h e = asked_spot (first_of (outside ws xs) (nodes_in ws)) (whole_question q) (nodes_in ws) (nowhere-first (outside ws xs) (nodes_in ws) (λ i l. in_told ws xs i (h i l))) e
-
 -- and a place below n is such a node
-spot_node : (s : Spot) (b : Bool) (n k : ℕ) → else_at s b n ≡ At k → k < n → s ≡ At k
+pub spot_node : (s : Spot) (b : Bool) (n k : ℕ) → else_at s b n ≡ At k → k < n → s ≡ At k
 unfolding else_at
 spot_node (At j) b n k e l = e
 spot_node Nowhere true n k e l = cc
 spot_node Nowhere false n k e l =
     let z : n ≡ k = cc in
     absurd (omega (arith, z, l))
-
-pub no_node : (ws : List ℕ) (xs : List Float) (q : LayoutInput) (k : ℕ) → profile_spot ws xs q ≡ At k → k < nodes_in ws → LowestOutside ws xs k
-unfolding profile_spot
-no_node ws xs q k e l = first-at (outside ws xs) (nodes_in ws) k (spot_node (first_of (outside ws xs) (nodes_in ws)) (whole_question q) (nodes_in ws) k e l)

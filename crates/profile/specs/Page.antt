@@ -12,8 +12,8 @@ use Rattle.style.specs.Codes.{flag_at, baseline_of}
 use Rattle.style.specs.Style.{word_at, number_at, measure_at, style_at}
 use Rattle.style.specs.declared.Style.{Style}
 use Rattle.tree.specs.Tree.{Tree, node}
-use Rattle.tree.specs.Table.{Entry, from, parse_f, parse_t}
-use Rattle.steps.specs.Page.{Site, site_at, nodes_in, page_of}
+use Rattle.tree.specs.Table.{Entry, from, parse_f}
+use Rattle.steps.specs.Page.{Site, site_at}
 use Rattle.steps.specs.declared.LayoutInput.{LayoutInput}
 use Rattle.whole.specs.Test.{pixel}
 use Rattle.laws.specs.Trees.{AllF, not_true}
@@ -135,26 +135,23 @@ style_line : (ws : List ℕ) (xs : List Float) (i : ℕ) → pixel (number_at xs
 unfolding style_at measure_at
 style_line ws xs i e = line_whole (word_at ws i 1) (number_at xs i 27) e
 
-node_style : (ws : List ℕ) (xs : List Float) (i : ℕ) → of_profile ws xs i ≡ true → InProfile (style_at ws i xs i)
+pub node_style : (ws : List ℕ) (xs : List Float) (i : ℕ) → of_profile ws xs i ≡ true → InProfile (style_at ws i xs i)
 unfolding of_profile
 node_style ws xs i e = style_in_lem (style_at ws i xs i) (and_fst (profile_style (style_at ws i xs i)) _ e) (style_line ws xs i (and_fst (pixel (number_at xs i 27)) _ (and_snd (profile_style (style_at ws i xs i)) _ e)))
 
-node_sides : (ws : List ℕ) (xs : List Float) (i : ℕ) → 0 < i → of_profile ws xs i ≡ true → two_autos (style_at ws i xs i) ≡ false
+pub node_sides : (ws : List ℕ) (xs : List Float) (i : ℕ) → 0 < i → of_profile ws xs i ≡ true → two_autos (style_at ws i xs i) ≡ false
 unfolding of_profile
 node_sides ws xs i u e =
     let a : (eqb i 0 || not (two_autos (style_at ws i xs i))) ≡ true = and_snd (pixel (number_at xs i 27)) _ (and_snd (profile_style (style_at ws i xs i)) _ e) in
     let z : eqb i 0 ≡ false = ne_eqb i 0 (λ q. omega arith) in
     not_true _ (rw z at a)
 
-site_style : (ws : List ℕ) (xs : List Float) (i : ℕ) → (site_at ws xs [] 0 i).label.style ≡ style_at ws i xs i
+pub site_style : (ws : List ℕ) (xs : List Float) (i : ℕ) → (site_at ws xs [] 0 i).label.style ≡ style_at ws i xs i
 unfolding site_at
 site_style ws xs i = ap (style_at ws i xs) (omega arith)
 
-child_in : (ws : List ℕ) (xs : List Float) (i : ℕ) → 0 < i → of_profile ws xs i ≡ true → ChildProfile (site_at ws xs [] 0 i).label
-child_in ws xs i u e = record { style = rw (site_style ws xs i) (node_style ws xs i e); sides = rw (site_style ws xs i) (node_sides ws xs i u e) }
-
 -- ---- all nodes below the root, as they are parsed
-unfoldable AllL : List (Entry Site) → Type 0
+unfoldable pub AllL : List (Entry Site) → Type 0
 AllL [] = Unit {0}
 AllL (e ∷ l) = ChildProfile e.label × AllL l
 
@@ -170,21 +167,13 @@ all_drop zero l h = h
 all_drop (suc n) [] h = tt
 all_drop (suc n) (e ∷ l) h = all_drop n l h.1
 
-all_from : (f : ℕ → Entry Site) (i n : ℕ) → ((k : ℕ) → i ≤ k → k < i + n → ChildProfile (f k).label) → AllL (from f i n)
+pub all_from : (f : ℕ → Entry Site) (i n : ℕ) → ((k : ℕ) → i ≤ k → k < i + n → ChildProfile (f k).label) → AllL (from f i n)
 unfolding AllL from
 all_from f i zero h = tt
 all_from f i (suc n) h = (h i (omega arith) (omega arith), all_from f (suc i) n (λ k u v. h k (omega arith) (omega arith)))
 
-all_parse : (k : ℕ) (l : List (Entry Site)) → AllL l → AllF ChildProfile (parse_f k l)
+pub all_parse : (k : ℕ) (l : List (Entry Site)) → AllL l → AllF ChildProfile (parse_f k l)
 unfolding AllL AllF parse_f
 all_parse zero l h = tt
 all_parse (suc k) [] h = tt
 all_parse (suc k) (e ∷ l) h = ((h.0, all_parse k (take (e.size - 1) l) (all_take (e.size - 1) l h.1)), all_parse k (drop (e.size - 1) l) (all_drop (e.size - 1) l h.1))
-
--- tables whose every node is of the profile are a page of the profile
-pub page_in : (ws : List ℕ) (xs : List Float) → 0 < nodes_in ws → ((i : ℕ) → i < nodes_in ws → of_profile ws xs i ≡ true) → ProfilePage (page_of ws xs [])
-unfolding page_of parse_t ProfilePage
-page_in ws xs p h = (
-  rw (site_style ws xs 0) (node_style ws xs 0 (h 0 p)),
-  all_parse (nodes_in ws - 1) _ (all_from (site_at ws xs [] 0) 1 (nodes_in ws - 1) (λ k u v. child_in ws xs k u (h k (omega arith)))),
-)

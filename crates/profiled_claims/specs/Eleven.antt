@@ -22,7 +22,8 @@ use Rattle.tables.proofs.Exactly.{Exactly, size-exactly}
 use Rattle.tables.proofs.Passing.{then_pass_1, then_pass_2, if_pass, no_pass}
 use Rattle.tables.proofs.ScanLaws.{first-at, first-nowhere}
 use Rattle.profile.specs.Profile.{of_profile, outside, whole_question, else_at, profile_spot}
-use Rattle.profile.specs.Exact.{NodesIn, LowestOutside, node_no, question_no}
+use Rattle.profile.specs.Exact.{NodesIn, LowestOutside, node_no}
+use Rattle.profile.proofs.Exact.{question_no}
 use Rattle.tables.specs.Early.{early_tested}
 use Rattle.profiled.specs.Profiled.{profile_tested, ProfileReply, profiled_layout_result, profiled_relayout_result, of_size, size_or, profiled_size_result, yes_by, yes_or_no}
 use Rattle.profiled.specs.declared.ProfileAnswer.{ProfileAnswer}

@@ -1,0 +1,3 @@
+pub mod NoWidth
+pub mod Before
+pub mod OnTables
