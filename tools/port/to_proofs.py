@@ -3,7 +3,7 @@
 
 usage, at the top of the repository: python3 tools/port/to_proofs.py [--list] CRATE FILE.NAME..
 
-FILE.NAME is a declaration NAME of specs/FILE.antt. What moves is an item at the left margin: a declaration, a mutual block or a module.
+FILE.NAME is a declaration NAME of specs/FILE.antt; as FILE.NAME/HOME it goes, with all of that file that rests on it, to proofs/HOME.antt. What moves is an item at the left margin: a declaration, a mutual block or a module.
 specs/X.antt keeps the rest, and proofs/X.antt gets what moves; every import in the repository and each must-fail edit follows.
 """
 
@@ -14,6 +14,7 @@ import re
 import sys
 
 WORD = re.compile(r"[^\s(){}\[\];,.|=:\"λ→×∷`]+")
+RESERVED = {"Layout"}
 MARKS = {"pub", "abbrev", "unfoldable", "opaque", "record", "data", "ruleset"}
 
 
@@ -203,11 +204,21 @@ def main(argv):
                 if a in alias and (alias[a], name) in where:
                     users[(alias[a], where[(alias[a], name)])].add((f, n))
     move, todo = set(), []
+    apart = {}
     for s in seeds:
+        s, _, to = s.partition("/")
         f, name = s.split(".", 1)
         if (f, name) not in where:
             raise SystemExit(f"no {s}: {sorted(files[f].own[0])[:5] if f in files else ''}")
         todo.append((f, where[(f, name)]))
+        if to:
+            near, seen = [todo[-1]], set()
+            while near:
+                it = near.pop()
+                if it not in seen:
+                    seen.add(it)
+                    near += users[it]
+            apart.update({it: to for it in seen if it[0] == f})
     while todo:
         it = todo.pop()
         if it in move:
@@ -216,7 +227,7 @@ def main(argv):
         todo += users[it]
     moved = collections.defaultdict(dict)
     for f, n in move:
-        for name in files[f].own[n]:
+        for name in [*files[f].own[n], *(k for k, v in files[f].parts[n].items() if v[2] == "data")]:
             moved[f][name] = n
     for f in files:
         if f in moved:
@@ -224,7 +235,7 @@ def main(argv):
                 if (f, n) in move:
                     head = next((l for l in item if not l.startswith("--") and l.strip()), item[0])
                     sure = re.match(r"(abbrev|unfoldable|pub record|pub data|record|data) ", head)
-                    print(("DEF " if sure else "    ") + f"{f}: {' '.join(files[f].own[n])[:150]}")
+                    print(("DEF " if sure else "    ") + f"{f}: {' '.join(files[f].own[n])[:150]}" + (f" -> {apart[(f, n)]}" if (f, n) in apart else ""))
     if only:
         return
     # what stays and what moves
@@ -232,10 +243,19 @@ def main(argv):
     for f in moved:
         it = files[f]
         name = f
-        while os.path.exists(f"{top}/proofs/{name}.antt"):
+        # (rattle makes modules of the names in RESERVED)
+        while os.path.exists(f"{top}/proofs/{name}.antt") or name in RESERVED:
             name += "Laws"
         home[f] = name
-    pmod = lambda f: f"Rattle.{crate}.proofs.{home[f]}"
+    to_home = lambda f, n: apart.get((f, n), home[f])
+    pmod = lambda f, name: f"Rattle.{crate}.proofs.{to_home(f, moved[f][name])}"
+
+    def by_module(f, pairs):
+        """Imported names of a file that moved, by the module that has each now."""
+        out = {}
+        for n, b in pairs:
+            out.setdefault(pmod(f, n), []).append((n, b))
+        return out.items()
 
     def retarget(use, skip=None):
         """The imports with the moved names taken from proofs/."""
@@ -247,8 +267,7 @@ def main(argv):
                 go = [(n, b) for n, b in names if n in moved[g]]
                 if stay:
                     out.append((pub, path, stay, a))
-                if go:
-                    out.append((pub, pmod(g), go, a))
+                out += [(pub, path2, names2, a) for path2, names2 in by_module(g, go)]
             else:
                 out.append((pub, path, names, a))
         return out
@@ -265,10 +284,10 @@ def main(argv):
                     g = path[len(spec) :] if path.startswith(spec) else None
                     if g in moved:
                         got = {n for x, n in dotted if x == key}
-                        if got <= set(moved[g]):
-                            path = pmod(g)
-                        elif got & set(moved[g]):
-                            raise SystemExit(f"{path} as {key} is used for both: {got}")
+                        to = {pmod(g, n) if n in moved[g] else path for n in got}
+                        if len(to) > 1:
+                            raise SystemExit(f"{path} as {key} is used for {to}: {got}")
+                        path = to.pop()
                     out.append((pub, path, None, a))
                 continue
             kept = [(n, b) for n, b in names if used(b, plain, text)]
@@ -276,25 +295,30 @@ def main(argv):
                 out.append((pub, path, kept, a))
         return out
 
+    new_files = []
     for f in moved:
         it = files[f]
         stay = [n for n in range(len(it.items)) if (f, n) not in move]
-        go = [n for n in range(len(it.items)) if (f, n) in move]
-        go_lines = [l for n in go for l in it.items[n]]
-        plain, dotted, text = tokens(go_lines)
-        needs = []
-        for n in stay:
-            shown = lambda at: re.sub(r"^(\s*)((?:abbrev|unfoldable|opaque) )?(?!pub )", lambda m: m[1] + (m[2] or "") + "pub ", it.items[n][at], count=1) if not re.match(r"\s*((abbrev|unfoldable|opaque) )?pub ", it.items[n][at]) else it.items[n][at]
-            for name, at in it.own[n].items():
-                kids = {k: v for k, v in it.parts[n].items() if v[1] == at}
-                mine = [k for k, v in kids.items() if v[2] == "data" and used(k, plain, text)]
-                if used(name, plain, text) or mine:
-                    # what the moved items cite is public
-                    needs += [name, *mine]
-                    it.items[n][at] = shown(at)
-                    for k, (line, _, kind) in kids.items():
-                        if kind == "record":
-                            it.items[n][line] = shown(line)
+        base = [l for l in it.head]
+        homes = list(dict.fromkeys(to_home(f, n) for n in range(len(it.items)) if (f, n) in move))
+        made = {}
+        for to in homes:
+            go = [n for n in range(len(it.items)) if (f, n) in move and to_home(f, n) == to]
+            plain, dotted, text = tokens([l for n in go for l in it.items[n]])
+            needs = collections.defaultdict(list)
+            for n in [k for k in range(len(it.items)) if k not in go]:
+                shown = lambda at: re.sub(r"^(\s*)((?:abbrev|unfoldable|opaque) )?(?!pub )", lambda m: m[1] + (m[2] or "") + "pub ", it.items[n][at], count=1) if not re.match(r"\s*((abbrev|unfoldable|opaque) )?pub ", it.items[n][at]) else it.items[n][at]
+                for name, at in it.own[n].items():
+                    kids = {k: v for k, v in it.parts[n].items() if v[1] == at}
+                    mine = [k for k, v in kids.items() if v[2] == "data" and used(k, plain, text)]
+                    if used(name, plain, text) or mine:
+                        # what the moved items cite is public
+                        needs[f"Rattle.{crate}.specs.{f}" if n in stay else f"Rattle.{crate}.proofs.{to_home(f, n)}"] += [name, *mine]
+                        it.items[n][at] = shown(at)
+                        for k, (line, _, kind) in kids.items():
+                            if kind == "record":
+                                it.items[n][line] = shown(line)
+            made[to] = (go, trimmed(retarget(it.use), [l for n in go for l in it.items[n]], None) + [("", path, [(n, n) for n in dict.fromkeys(names)], None) for path, names in needs.items()])
         # and so is each type that a public signature names
         again = True
         while again:
@@ -320,11 +344,9 @@ def main(argv):
                                             it.items[m][line2] = re.sub(r"^(\s*)", r"\1pub ", it.items[m][line2])
                                     again = True
         stay_lines = [l for n in stay for l in it.items[n]]
-        base = [l for l in it.head]
-        new_use = trimmed(retarget(it.use), go_lines, pmod(f))
-        if needs:
-            new_use.append(("", f"Rattle.{crate}.specs.{f}", [(n, n) for n in dict.fromkeys(needs)], None))
-        write(f"{top}/proofs/{home[f]}.antt", "\n".join(base + [use_line(*u) for u in new_use]) + "\n\n" + "\n\n".join("\n".join(it.items[n]) for n in go) + "\n")
+        for to, (go, new_use) in made.items():
+            new_files.append(to)
+            write(f"{top}/proofs/{to}.antt", "\n".join(base + [use_line(*u) for u in new_use]) + "\n\n" + "\n\n".join("\n".join(it.items[n]) for n in go) + "\n")
         if any(re.match(r"\S", l) and not l.startswith("--") for l in stay_lines):
             # only imports that the rest uses
             write(it.path, "\n".join(base + [use_line(*u) for u in trimmed(it.use, stay_lines, None)]) + "\n\n" + "\n\n".join("\n".join(it.items[n]) for n in stay) + "\n")
@@ -335,10 +357,9 @@ def main(argv):
             write(lib, "".join(l for l in read(lib).splitlines(True) if l.split() != ["pub", "mod", f] and l.split() != ["mod", f]))
     lib = f"{top}/proofs/Lib.antt"
     old = read(lib) if os.path.exists(lib) else ""
-    write(lib, old + "".join(f"pub mod {home[f]}\n" for f in files if f in moved))
+    write(lib, old + "".join(f"pub mod {to}\n" for to in new_files))
     # every other file
     pat = re.compile(r"(?m)^((?:ghost )?(?:pub )?use) " + re.escape(spec) + r"(" + "|".join(map(re.escape, moved)) + r")(?:\.\{([^}]*)\})?( as [\w'\-]+)?(;?)[ \t]*$")
-    mine = {f"{top}/proofs/{home[f]}.antt" for f in moved} | {files[f].path for f in moved}
     for p in sorted(glob.glob("crates/*/specs/*.antt") + glob.glob("crates/*/proofs/**/*.antt", recursive=True) + glob.glob("crates/*/src/**/*.rt", recursive=True)):
         text = read(p)
         if spec not in text:
@@ -349,19 +370,18 @@ def main(argv):
             if m[3] is None:
                 a = (m[4] or "").removeprefix(" as ") or g
                 got = set(re.findall(r"(?<![\w'.\-])" + re.escape(a) + r"\.([^\s(){}\[\];,.|=:\"]+)", text))
-                go = got & set(moved[g])
-                if go and go != got:
-                    raise SystemExit(f"{p}: {m[0]} is used for both: {got}")
-                return f"{m[1]} {pmod(g)}{m[4] or ''}{m[5]}" if go else m[0]
+                to = {pmod(g, n) if n in moved[g] else spec + g for n in got}
+                if len(to) > 1:
+                    raise SystemExit(f"{p}: {m[0]} is used for {to}: {got}")
+                return f"{m[1]} {to.pop()}{m[4] or ''}{m[5]}" if to else m[0]
             names = [cut(w.strip()) for w in m[3].replace("\n", " ").split(",") if w.strip()]
             stay = [x for x in names if x[0] not in moved[g]]
             go = [x for x in names if x[0] in moved[g]]
             line = lambda path, ns: f"{m[1]} {path}.{{" + ", ".join(a if a == b else f"{a} as {b}" for a, b in ns) + "}" + m[5]
-            return "\n".join(([line(spec + g, stay)] if stay else []) + ([line(pmod(g), go)] if go else []))
+            return "\n".join(([line(spec + g, stay)] if stay else []) + [line(path2, names2) for path2, names2 in by_module(g, go)])
 
         now = text
-        if p not in mine or True:
-            now = pat.sub(sub, text)
+        now = pat.sub(sub, text)
         if now != text:
             write(p, now)
     # the edits
@@ -375,12 +395,13 @@ def main(argv):
             if line.startswith("old: "):
                 f = os.path.basename(cur)[:-5]
                 if cur.startswith("specs/") and f in moved:
-                    a, b = (f"{top}/{x}" for x in (cur, f"proofs/{home[f]}.antt"))
+                    a = f"{top}/{cur}"
                     old = line[5:]
                     in_a = os.path.exists(a) and read(a).count(old)
-                    in_b = read(b).count(old)
+                    found = [to for to in dict.fromkeys(to_home(f, n) for n in range(len(files[f].items)) if (f, n) in move) if read(f"{top}/proofs/{to}.antt").count(old) == 1]
+                    in_b = len(found)
                     if not in_a and in_b == 1:
-                        cur2 = f"proofs/{home[f]}.antt"
+                        cur2 = f"proofs/{found[0]}.antt"
                         for j in range(len(out) - 1, -1, -1):
                             if out[j].startswith("file: "):
                                 if all(not l.startswith("old: ") for l in out[j + 1 :]):

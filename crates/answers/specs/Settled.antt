@@ -37,11 +37,6 @@ read_back_lem (TooLarge i) = refl
 pub paper_settles : (a b : Answer) → paper a ≡ paper b → a ≡ b
 paper_settles a b e = sym (read_back_lem a) ∙ ap answer_at e ∙ read_back_lem b
 
--- 0 with the place 0 is that answer
-pub zero_is_done : (a : Answer) → paper a ≡ (0, 0) → a ≡ Done 0
-unfolding paper
-zero_is_done a e = paper_settles a (Done 0) e
-
 -- a number from 9 on, as the requests have them, is none of these answers'
 pub from_nine : (a : Answer) (n k : ℕ) → 8 < n → paper a ≡ (n, k) → ⊥
 from_nine a n k h e = let p = ap (λ (p : ℕ × ℕ). p.0) e in omega (arith, paper-nine a)

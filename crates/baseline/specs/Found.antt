@@ -21,24 +21,23 @@ use Rattle.steps.specs.Stack.{start_of, item_of, question_to, top_margins, botto
 use Rattle.steps.specs.Through.{output_of, finished, leaf_output}
 use Rattle.steps.specs.Probe.{width_pass}
 use Rattle.steps.specs.Kept.{Laid, zeros_f}
-use Rattle.steps.specs.Layout.{Stacked, skip, aside, place, lay_t, lay_f, relaid, fresh}
+use Rattle.steps.specs.Layout.{Stacked, skip, aside, place, lay_t, lay_f}
 use Rattle.steps.specs.declared.LayoutInput.{LayoutInput}
 use Rattle.steps.specs.declared.LayoutOutput.{LayoutOutput}
 use Rattle.steps.specs.declared.Frame.{Frame}
 use Rattle.steps.specs.declared.Cursor.{Cursor}
 use Rattle.steps.specs.declared.BlockItem.{BlockItem}
-use Rattle.steps.proofs.Clauses.{style_t, frame_at, stack_of, shift_of, leaf_rows, block_rows, leaf_out, block_out, lay_f_none, lay_f_gone, lay_f_out, lay_f_in}
+use Rattle.steps.proofs.Clauses.{style_t, leaf_out, lay_f_none, lay_f_gone, lay_f_out, lay_f_in}
 use Rattle.steps.proofs.Cells.{pass_cells, cell_in}
-use Rattle.laws.specs.Trees.{AllT, AllF}
 use Rattle.laws.specs.Bits.{lined_row, laid_row_lem}
 use Rattle.laws.specs.Along.{root_row}
 use Rattle.laws.specs.Small.{Small}
-use Rattle.baseline.specs.New.{New, asked_new, new_root, new_nodes}
+use Rattle.baseline.specs.New.{New, asked_new}
 use Rattle.baseline.specs.Carried.{lined, line_in, CarriesT, SaysT, SaysF}
-use Rattle.baseline.specs.Origins.{site_n, some_or, or_some, is_some_lem, not_some, some_some, no_some, hidden_says, aside_says, bare_says, bare_root, carries_any, says_on, put_alike, OriginHere, root_on, align_says, align_first, zeros_f_lem, OriginF}
+use Rattle.baseline.specs.Origins.{site_n, or_some, is_some_lem, not_some, some_some, no_some, hidden_says, aside_says, bare_says, bare_root, carries_any, says_on, put_alike, OriginHere, root_on, zeros_f_lem, OriginF}
 
 -- ---- one node
-uncontained : (s : Style) (o d : OptionF32) (b : Float) → block_baseline s o d ≡ Some b → shifted o d ≡ Some b
+pub uncontained : (s : Style) (o d : OptionF32) (b : Float) → block_baseline s o d ≡ Some b → shifted o d ≡ Some b
 unfolding block_baseline
 uncontained s o d b e = go s.contained e
   where
@@ -46,49 +45,28 @@ uncontained s o d b e = go s.contained e
     go true x = no_some b x
     go false x = x
 
-finished_line : (s : Style) (q : LayoutInput) (f : Frame) (c : Cursor) → (finished s q f c).output.baseline ≡ block_baseline s c.baseline (finished s q f c).shift
+pub finished_line : (s : Style) (q : LayoutInput) (f : Frame) (c : Cursor) → (finished s q f c).output.baseline ≡ block_baseline s c.baseline (finished s q f c).shift
 unfolding finished output_of
 finished_line s q f c = refl
 
-leaf_line : (n : Node) (ks : Forest Node) (q : LayoutInput) (found : Float) → is_leaf n.site.style.kind ≡ true → (lay_t (node n ks) q found).out.baseline ≡ n.site.style.measure.baseline
+pub leaf_line : (n : Node) (ks : Forest Node) (q : LayoutInput) (found : Float) → is_leaf n.site.style.kind ≡ true → (lay_t (node n ks) q found).out.baseline ≡ n.site.style.measure.baseline
 unfolding leaf_output
 leaf_line n ks q found e = ap (λ (o : LayoutOutput). o.baseline) (leaf_out n ks q found e)
 
-laid_line : (q : LayoutInput) (o : LayoutOutput) (p : ProbeWords) → line_in (laid_row q o p) ≡ or_zero o.baseline
+pub laid_line : (q : LayoutInput) (o : LayoutOutput) (p : ProbeWords) → line_in (laid_row q o p) ≡ or_zero o.baseline
 unfolding laid_row
 laid_line q o p = refl
 
-start_none : (f : Frame) → (start_of f).baseline ≡ None
+pub start_none : (f : Frame) → (start_of f).baseline ≡ None
 unfolding start_of
 start_none f = refl
 
-abbrev FirstIn : Forest Node → Frame → Cursor → Type 0
+abbrev pub FirstIn : Forest Node → Frame → Cursor → Type 0
 FirstIn ks f c = (x : Float) → (lay_f ks f c).last.baseline ≡ Some x → OriginF (map_f site_n ks) (lay_f ks f c).rows x
 
-zeros_below : (ks : Forest Node) → SaysF (map_f site_n ks) (zeros_f ks)
+pub zeros_below : (ks : Forest Node) → SaysF (map_f site_n ks) (zeros_f ks)
 unfolding zeros_f
 zeros_below ks = zeros_f_lem ks
-
-lay_says : (l : Node) (ks : Forest Node) (q : LayoutInput) (found : Float) → Small l → ((f : Frame) (c : Cursor) → SaysF (map_f site_n ks) (lay_f ks f c).rows) → ((f : Frame) (c : Cursor) → c.baseline ≡ None → FirstIn ks f c)
-    → SaysT (node (site_n l) (map_f site_n ks)) (lay_t (node l ks) q found).rows
-lay_says l ks q found v h first = go (is_leaf l.site.style.kind) refl
-  where
-    o : LayoutOutput
-    o = (lay_t (node l ks) q found).out
-
-    has : lined (laid_row q o l.probe) ≡ true → o.baseline ≡ Some (line_in (laid_row q o l.probe))
-    has e = some_or o.baseline (sym (lined_row q o l.probe v) ∙ e) ∙ ap Some (sym (laid_line q o l.probe))
-
-    go : (b : Bool) → is_leaf l.site.style.kind ≡ b → SaysT (node (site_n l) (map_f site_n ks)) (lay_t (node l ks) q found).rows
-    go true e = rw (leaf_rows l ks q found e) ((λ x. inl (record { leaf = e; own = sym (leaf_line l ks q found e) ∙ has x })), zeros_below ks)
-    go false e =
-        let f : Frame = frame_at l q found in
-        let c : Cursor = (stack_of l ks q found).last in
-        let d = shift_of l q found c in
-        rw (block_rows l ks q found e) (
-          (λ x. inr (align_first d c.baseline (map_f site_n ks) (stack_of l ks q found).rows _ (first f (start_of f) (start_none f)) (uncontained l.site.style c.baseline d _ (sym (ap (λ (z : LayoutOutput). z.baseline) (block_out l ks q found e) ∙ finished_line l.site.style q f c) ∙ has x)))),
-          align_says d (map_f site_n ks) (stack_of l ks q found).rows (h f (start_of f)),
-        )
 
 -- ---- the stack
 through_line : (c : Cursor) (t b : CollapsibleMarginSet) (x : OptionF32) → (past_through c t b x).baseline ≡ x
@@ -151,9 +129,9 @@ unfolding root_t
 root_of_lem (node n ks) q = root_row n ks q zero_f
 
 -- what one child leaves the stack: the rows below, and the first baseline
-record Kid (t : Tree Node) : Type 0 where
-  small : Small (root_t t)
-  says : (q : LayoutInput) → SaysT (map_t site_n t) (lay_t t q zero_f).rows
+pub record Kid (t : Tree Node) : Type 0 where
+  pub small : Small (root_t t)
+  pub says : (q : LayoutInput) → SaysT (map_t site_n t) (lay_t t q zero_f).rows
 
 carried : (t : Tree Site) (u : Tree Row) → SaysT t u → lined (root_t u) ≡ true → CarriesT t u (line_in (root_t u))
 unfolding root_t
@@ -207,7 +185,7 @@ stays_f none f c x e = rw (lay_f_none f c) e
 stays_f (more t ts) f c x e = more_stays t ts f c x (λ d z. stays_f ts f d x z) e
 
 -- one child and those after it
-abbrev SaysIn : Forest Node → Frame → Type 0
+abbrev pub SaysIn : Forest Node → Frame → Type 0
 SaysIn ts f = (c : Cursor) → SaysF (map_f site_n ts) (lay_f ts f c).rows
 
 skip_says : (c : Cursor) (t : Tree Node) (ts : Forest Node) (g : Cursor → Stacked) → ((d : Cursor) → SaysF (map_f site_n ts) (g d).rows) → SaysF (more (map_t site_n t) (map_f site_n ts)) (skip c t g).rows
@@ -223,7 +201,7 @@ place_says : (f : Frame) (c : Cursor) (s : Style) (t : Tree Node) (ts : Forest N
 unfolding place
 place_says f c s t ts a g h r = (says_on _ (put_alike (place_of f c (item_of f s) a.out) c.shown.0) (map_t site_n t) a.rows h, r (stepped f c (item_of f s) a.out))
 
-abbrev FirstOf : Forest Node → (Cursor → Stacked) → Type 0
+abbrev pub FirstOf : Forest Node → (Cursor → Stacked) → Type 0
 FirstOf ts g = (d : Cursor) → d.baseline ≡ None → (x : Float) → (g d).last.baseline ≡ Some x → OriginF (map_f site_n ts) (g d).rows x
 
 skip_first : (c : Cursor) (t : Tree Node) (ts : Forest Node) (g : Cursor → Stacked) → FirstOf ts g → c.baseline ≡ None → (x : Float) → (skip c t g).last.baseline ≡ Some x → OriginF (more (map_t site_n t) (map_f site_n ts)) (skip c t g).rows x
@@ -255,7 +233,7 @@ place_first f c s t ts q k r z x e = go (lay_t t q zero_f).out.baseline refl
         let same : place_y f c i o ⊕ b ≡ x = some_some _ _ (sym (stays_f ts f d (place_y f c i o ⊕ b) at) ∙ e) in
         inl (rw same at (kid_here t k f c q i c.shown.0 b h))
 
-more_says : (t : Tree Node) (ts : Forest Node) (f : Frame) (c : Cursor) → New (root_t t) → Kid t → SaysIn ts f → SaysF (more (map_t site_n t) (map_f site_n ts)) (lay_f (more t ts) f c).rows
+pub more_says : (t : Tree Node) (ts : Forest Node) (f : Frame) (c : Cursor) → New (root_t t) → Kid t → SaysIn ts f → SaysF (more (map_t site_n t) (map_f site_n ts)) (lay_f (more t ts) f c).rows
 more_says t ts f c n k r = go (flow_of (style_t t)) refl
   where
     go : (w : Flow) → flow_of (style_t t) ≡ w → SaysF (more (map_t site_n t) (map_f site_n ts)) (lay_f (more t ts) f c).rows
@@ -265,7 +243,7 @@ more_says t ts f c n k r = go (flow_of (style_t t)) refl
         let q : LayoutInput = question_to f (style_t t) in
         rw (lay_f_in t ts f c h, asked_new t q n.unlaid) (place_says f c (style_t t) t ts (lay_t t q zero_f) (lay_f ts f) (k.says q) r)
 
-more_first : (t : Tree Node) (ts : Forest Node) (f : Frame) (c : Cursor) → New (root_t t) → Kid t → FirstOf ts (lay_f ts f) → c.baseline ≡ None → (x : Float) → (lay_f (more t ts) f c).last.baseline ≡ Some x
+pub more_first : (t : Tree Node) (ts : Forest Node) (f : Frame) (c : Cursor) → New (root_t t) → Kid t → FirstOf ts (lay_f ts f) → c.baseline ≡ None → (x : Float) → (lay_f (more t ts) f c).last.baseline ≡ Some x
     → OriginF (more (map_t site_n t) (map_f site_n ts)) (lay_f (more t ts) f c).rows x
 more_first t ts f c n k r z x = go (flow_of (style_t t)) refl
   where
@@ -277,24 +255,11 @@ more_first t ts f c n k r z x = go (flow_of (style_t t)) refl
         rw (lay_f_in t ts f c h, asked_new t q n.unlaid) (place_first f c (style_t t) t ts q k r z x)
 
 -- ---- all nodes
-kid : (t : Tree Node) → New (root_t t) → ((q : LayoutInput) → SaysT (map_t site_n t) (lay_t t q zero_f).rows) → Kid t
+pub kid : (t : Tree Node) → New (root_t t) → ((q : LayoutInput) → SaysT (map_t site_n t) (lay_t t q zero_f).rows) → Kid t
 kid t n h = record { small = n.small; says = h }
 
-none_first : (f : Frame) (c : Cursor) → c.baseline ≡ None → (x : Float) → (lay_f none f c).last.baseline ≡ Some x → OriginF none (lay_f none f c).rows x
+pub none_first : (f : Frame) (c : Cursor) → c.baseline ≡ None → (x : Float) → (lay_f none f c).last.baseline ≡ Some x → OriginF none (lay_f none f c).rows x
 none_first f c z x = rw (lay_f_none f c) (λ e. no_some x (sym z ∙ e))
-
-mutual
-  unfolding AllT map_t
-
-  says_t : (t : Tree Node) → AllT New t → (q : LayoutInput) (found : Float) → SaysT (map_t site_n t) (lay_t t q found).rows
-  says_t (node l ks) h q found = lay_says l ks q found h.0.small (λ f c. (both_f ks h.1 f c).0) (λ f c. (both_f ks h.1 f c).1)
-
-  both_f : (ts : Forest Node) → AllF New ts → (f : Frame) (c : Cursor) → SaysF (map_f site_n ts) (lay_f ts f c).rows × (c.baseline ≡ None → FirstIn ts f c)
-  both_f none h f c = (tt, none_first f c)
-  both_f (more t ts) h f c =
-      let n = new_root t h.0 in
-      let k = kid t n (λ q. says_t t h.0 q zero_f) in
-      (more_says t ts f c n k (λ d. (both_f ts h.1 f d).0), more_first t ts f c n k (λ d. (both_f ts h.1 f d).1))
 
 mutual
   unfolding map_t blank
@@ -307,12 +272,5 @@ mutual
   map_self_f (more t ts) = rw (map_self t, map_self_f ts)
 
 -- the sites of the nodes that the width pass gives the final pass
-pass_sites : (t : Tree Site) (q : LayoutInput) → map_t site_n (width_pass (map_t blank t) q).nodes ≡ t
+pub pass_sites : (t : Tree Site) (q : LayoutInput) → map_t site_n (width_pass (map_t blank t) q).nodes ≡ t
 pass_sites t q = sym (map_map_t (λ (c : Cell). c.site) cell_in (width_pass (map_t blank t) q).nodes) ∙ ap (map_t (λ (c : Cell). c.site)) (pass_cells (map_t blank t) q) ∙ map_map_t (λ (c : Cell). c.site) blank t ∙ map_self t
-
--- ---- At every node of a fresh layout whose row has a baseline: it is that of a leaf at or below the node, moved by places.
-pub from_a_leaf : (t : Tree Site) (q : LayoutInput) → SaysT t (fresh t q).rows
-unfolding fresh relaid
-from_a_leaf t q =
-    let p = width_pass (map_t blank t) q in
-    rw (pass_sites t q) at (says_t p.nodes (new_nodes t q) q p.found)

@@ -1,6 +1,6 @@
 -- Both theorems of lent tables: what holds where no style word has bit 16, and where each baseline comes from.
-use Rattle.std.specs.Prelude.{◌≡◌, refl, false, cond, not, ◌&&◌, List, [], ℕ, ◌<◌, Float}
-use Rattle.std.proofs.Common.{sym, ap, ◌∙◌, arith}
+use Rattle.std.specs.Prelude.{◌≡◌, refl, false, List, ℕ, ◌<◌, Float}
+use Rattle.std.proofs.Common.{sym, ap}
 use Rattle.util.specs.declared.OptionF32.{OptionF32}
 use Rattle.util.specs.declared.OptionF32.TheVariants.{None}
 use Rattle.style.specs.Codes.{flag_at, baseline_of}
@@ -9,17 +9,13 @@ use Rattle.style.specs.declared.Measure.{Measure}
 use Rattle.style.specs.declared.Style.{Style}
 use Rattle.tree.specs.Tree.{Tree, Forest, node, none, more, map_t, map_f}
 use Rattle.steps.specs.Page.{Site, site_at, nodes_in, page_of}
-use Rattle.steps.specs.Layout.{fresh}
-use Rattle.steps.specs.declared.LayoutInput.{LayoutInput}
 use Rattle.laws.specs.Trees.{AllT, AllF}
 use Rattle.laws.specs.Parsed.{all_parse}
-use Rattle.baseline.specs.Unlined.{unlined, unlined_table, unsaid}
-use Rattle.baseline.specs.Others.{unlined_site, other_words}
-use Rattle.baseline.specs.Carried.{SaysT}
-use Rattle.baseline.specs.Found.{from_a_leaf}
+use Rattle.baseline.specs.Unlined.{unlined_table}
+use Rattle.baseline.specs.Others.{unlined_site}
 
 -- a node whose table has none
-abbrev NoLine : Site → Type 0
+abbrev pub NoLine : Site → Type 0
 NoLine s = s.style.measure.baseline ≡ None
 
 table_same : (m : Measure) → m.baseline ≡ None → unlined_table m ≡ m
@@ -54,7 +50,7 @@ site_same s e = ap (λ (m : Measure). record { node = s.node; style = style_with
 mutual
   unfolding AllT map_t
 
-  page_same : (t : Tree Site) → AllT NoLine t → map_t unlined_site t ≡ t
+  pub page_same : (t : Tree Site) → AllT NoLine t → map_t unlined_site t ≡ t
   page_same (node s ks) h = rw (site_same s h.0, page_same_f ks h.1)
 
   page_same_f : (ts : Forest Site) → AllF NoLine ts → map_f unlined_site ts ≡ ts
@@ -73,19 +69,6 @@ site_none : (ws : List ℕ) (xs : List Float) (es : List ℕ) (i : ℕ) → flag
 unfolding site_at
 site_none ws xs es i e = style_none ws i xs _ e
 
-none_page : (ws : List ℕ) (xs : List Float) (es : List ℕ) → 0 < nodes_in ws → ((i : ℕ) → i < nodes_in ws → flag_at (word_at ws i 1) 16 ≡ false) → AllT NoLine (page_of ws xs es)
+pub none_page : (ws : List ℕ) (xs : List Float) (es : List ℕ) → 0 < nodes_in ws → ((i : ℕ) → i < nodes_in ws → flag_at (word_at ws i 1) 16 ≡ false) → AllT NoLine (page_of ws xs es)
 unfolding page_of
 none_page ws xs es p h = all_parse NoLine (site_at ws xs es 0) (nodes_in ws) p (λ i l. site_none ws xs es i (h i l))
-
--- Tables without bit 16: number 15 and bit 9 of every row are zero, so all there is stands in the other words.
-pub no_baseline_on_tables : (ws : List ℕ) (xs : List Float) (q : LayoutInput) → 0 < nodes_in ws → ((i : ℕ) → i < nodes_in ws → flag_at (word_at ws i 1) 16 ≡ false)
-    → map_t unsaid (fresh (page_of ws xs []) q).rows ≡ (fresh (page_of ws xs []) q).rows
-no_baseline_on_tables ws xs q p h = (other_words (page_of ws xs []) q).same_rows ∙ ap (λ (t : Tree Site). (fresh t q).rows) (page_same (page_of ws xs []) (none_page ws xs [] p h))
-
--- Any tables: the other words are those of the page without bit 16, which is what a layout left before there were baselines.
-pub others_on_tables : (ws : List ℕ) (xs : List Float) (q : LayoutInput) → map_t unsaid (fresh (page_of ws xs []) q).rows ≡ (fresh (map_t unlined_site (page_of ws xs [])) q).rows
-others_on_tables ws xs q = (other_words (page_of ws xs []) q).same_rows
-
--- Any tables: each baseline of a row is that of a leaf at or below its node, moved by places.
-pub from_a_leaf_on_tables : (ws : List ℕ) (xs : List Float) (q : LayoutInput) → SaysT (page_of ws xs []) (fresh (page_of ws xs []) q).rows
-from_a_leaf_on_tables ws xs q = from_a_leaf (page_of ws xs []) q

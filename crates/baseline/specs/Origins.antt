@@ -3,13 +3,12 @@ use Rattle.std.specs.Prelude.{◌≡◌, refl, true, false, ◌⊎◌, ℕ, Floa
 use Rattle.std.proofs.Common.{sym, ap, ◌∙◌, inl, inr}
 use Rattle.geometry.specs.Floats.{◌⊕◌}
 use Rattle.geometry.specs.declared.Point.{Point}
-use Rattle.util.specs.Maybe.{or_zero, is_some, add_opt}
+use Rattle.util.specs.Maybe.{or_zero, is_some}
 use Rattle.util.specs.declared.OptionF32.{OptionF32}
 use Rattle.util.specs.declared.OptionF32.TheVariants.{None, Some}
 use Rattle.tree.specs.Tree.{Tree, Forest, node, none, more, map_t, map_f, root_t, on_root}
 use Rattle.steps.specs.Row.{Row, is_laid, bare, no_row, hidden_row, aside_row, put_at, lowered}
 use Rattle.steps.specs.Page.{Site, Node}
-use Rattle.steps.specs.Baseline.{shifted}
 use Rattle.steps.specs.Kept.{zeros_t}
 use Rattle.steps.specs.Layout.{place, lower_f, align_f}
 use Rattle.laws.specs.Trees.{false_true}
@@ -142,13 +141,6 @@ lower_here d t u b h =
       moved = inr (record { before = r.place.y; d = d; place = lower_place d r h.laid; line = rw (a.line r) (ap (λ (x : Float). x ⊕ d) h.at) });
     })
 
-pub lower_first : (d : Float) (ks : Forest Site) (us : Forest Row) (b : Float) → OriginF ks us b → FirstF ks (lower_f d us) (b ⊕ d)
-unfolding lower_f
-lower_first d none us b h = h
-lower_first d (more t ts) none b h = h
-lower_first d (more t ts) (more u us) b (inl h) = inl (lower_here d t u b h)
-lower_first d (more t ts) (more u us) b (inr h) = inr (rw (root_on (lowered d) u) ((lower_alike d).has (root_t u) ∙ h.0), lower_first d ts us b h.1)
-
 pub lower_says : (d : Float) (ks : Forest Site) (us : Forest Row) → SaysF ks us → SaysF ks (lower_f d us)
 unfolding lower_f
 lower_says d none us h = tt
@@ -159,10 +151,3 @@ pub align_says : (d : OptionF32) (ks : Forest Site) (us : Forest Row) → SaysF 
 unfolding align_f
 align_says None ks us h = h
 align_says (Some d) ks us h = lower_says d ks us h
-
--- a baseline that M moved, of one that was found
-pub align_first : (d : OptionF32) (o : OptionF32) (ks : Forest Site) (us : Forest Row) (b : Float) → ((x : Float) → o ≡ Some x → OriginF ks us x) → shifted o d ≡ Some b → FirstF ks (align_f d us) b
-unfolding align_f shifted add_opt
-align_first None o ks us b h e = plain_first ks us b (h b e)
-align_first (Some d) None ks us b h e = no_some b e
-align_first (Some d) (Some x) ks us b h e = rw (some_some (x ⊕ d) b e) at (lower_first d ks us x (h x refl))

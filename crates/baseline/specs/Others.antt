@@ -5,51 +5,47 @@ use Rattle.geometry.specs.Geometry.{zero_f}
 use Rattle.geometry.specs.declared.Point.{Point}
 use Rattle.util.specs.Maybe.{or_zero, is_some}
 use Rattle.util.specs.declared.OptionF32.{OptionF32}
-use Rattle.util.specs.declared.OptionF32.TheVariants.{None, Some}
+use Rattle.util.specs.declared.OptionF32.TheVariants.{None}
 use Rattle.margin.specs.declared.CollapsibleMarginSet.{CollapsibleMarginSet}
 use Rattle.style.specs.Codes.{flag_at}
-use Rattle.style.specs.Flow.{is_leaf, flow_of}
+use Rattle.style.specs.Flow.{flow_of}
 use Rattle.style.specs.declared.Flow.{Flow}
 use Rattle.style.specs.declared.Flow.TheVariants.{Gone, Out, In}
 use Rattle.style.specs.declared.Style.{Style}
-use Rattle.tree.specs.Tree.{Tree, Forest, node, none, more, map_t, map_f, root_t, on_root}
-use Rattle.tree.proofs.Laws.{map_t_node, map_f_none, map_f_more, map_map_t, map_map_f, root_t_map}
+use Rattle.tree.specs.Tree.{Tree, Forest, node, more, map_t, map_f, root_t, on_root}
+use Rattle.tree.proofs.Laws.{map_map_t, map_map_f, root_t_map}
 use Rattle.steps.specs.Row.{Row, ProbeWords, bit, is_laid, is_out, bare, no_row, hidden_row, aside_row, laid_row, put_at, lowered}
-use Rattle.steps.specs.Page.{Site, Cell, Node, blank}
-use Rattle.steps.specs.Edges.{frame_of}
-use Rattle.steps.specs.Stack.{start_of, item_of, question_to, top_margins, bottom_margins, at_top, gap_of, place_x, place_y, place_of, past_through, past_box, stepped, line_of, edges_of, past_aside, past_hidden}
+use Rattle.steps.specs.Page.{Site, Node, blank}
+use Rattle.steps.specs.Stack.{start_of, item_of, question_to, top_margins, bottom_margins, at_top, gap_of, place_y, place_of, past_through, past_box, stepped, line_of, edges_of, past_aside, past_hidden}
 use Rattle.steps.specs.Height.{extra_of, step_k, step_l, step_m}
-use Rattle.steps.specs.Through.{step_n, output_of, finished, leaf_output}
-use Rattle.steps.specs.Probe.{width_pass}
+use Rattle.steps.specs.Through.{step_n, output_of, finished}
 use Rattle.steps.specs.Kept.{Laid, zeros_t, zeros_f}
-use Rattle.steps.specs.Layout.{Stacked, leaf_laid, block_laid, skip, aside, place, lower_f, align_f, lay_t, lay_f, ask_t, relaid, fresh}
+use Rattle.steps.specs.Layout.{Stacked, skip, aside, place, lay_t, lay_f}
 use Rattle.steps.specs.declared.LayoutInput.{LayoutInput}
 use Rattle.steps.specs.declared.LayoutOutput.{LayoutOutput}
 use Rattle.steps.specs.declared.Frame.{Frame}
 use Rattle.steps.specs.declared.Cursor.{Cursor}
 use Rattle.steps.specs.declared.BlockItem.{BlockItem}
-use Rattle.steps.proofs.Clauses.{style_t, lay_t_leaf, lay_t_block, lay_f_none, lay_f_gone, lay_f_out, lay_f_in}
-use Rattle.steps.proofs.Zeros.{zeros_t_lem, zeros_f_lem}
-use Rattle.laws.specs.Trees.{AllT, AllF}
-use Rattle.laws.specs.Small.{Small}
-use Rattle.laws.specs.Restyled.{site_by, cell_by, node_by, on_passed, pass-restyled}
-use Rattle.baseline.specs.New.{New, asked_new, new_root, new_nodes}
-use Rattle.baseline.specs.Unlined.{unlined, unlined_table, unsaid, quiet, still, unseen, same_flow, same_frame, same_item, same_question, same_leaf, none_past, none_out}
+use Rattle.steps.proofs.Clauses.{style_t, lay_f_gone, lay_f_out, lay_f_in}
+use Rattle.steps.proofs.Zeros.{zeros_t_lem}
+use Rattle.laws.specs.Restyled.{site_by, cell_by, node_by}
+use Rattle.baseline.specs.New.{New, asked_new}
+use Rattle.baseline.specs.Unlined.{unlined, unsaid, quiet, still, same_flow, same_item, same_question, none_past, none_out}
 
 -- a page without bit 16
 abbrev pub unlined_site : Site → Site
 unlined_site s = site_by unlined s
 
-abbrev unlined_node : Node → Node
+abbrev pub unlined_node : Node → Node
 unlined_node n = node_by unlined n
 
 pub record LessLaid (a b : Laid) : Type 0 where
   pub same_out : quiet a.out ≡ b.out
   pub same_rows : map_t unsaid a.rows ≡ b.rows
 
-record LessStack (a b : Stacked) : Type 0 where
-  same_last : still a.last ≡ b.last
-  same_rows : map_f unsaid a.rows ≡ b.rows
+pub record LessStack (a b : Stacked) : Type 0 where
+  pub same_last : still a.last ≡ b.last
+  pub same_rows : map_f unsaid a.rows ≡ b.rows
 
 -- ---- rows
 bit_small : (b : Bool) → bit b < 2
@@ -65,7 +61,7 @@ low_bits t g c h =
     let y = bit_small g in
     omega arith
 
-row_less : (q : LayoutInput) (o : LayoutOutput) (p : ProbeWords) → p.code < 16 → unsaid (laid_row q o p) ≡ laid_row q (quiet o) p
+pub row_less : (q : LayoutInput) (o : LayoutOutput) (p : ProbeWords) → p.code < 16 → unsaid (laid_row q o p) ≡ laid_row q (quiet o) p
 unfolding laid_row or_zero is_some
 row_less q o p h =
     rw (no_bit (1 + 2 * bit o.through + 8 * bit (is_some q.known.height) + 16 * p.code) (bit (is_some q.basis)) (bit (is_some o.baseline)) (low_bits o.through (is_some q.known.height) p.code h) (bit_small (is_some q.basis)) (bit_small (is_some o.baseline)))
@@ -82,7 +78,7 @@ aside_less : (a l e : Float) (n : ℕ) → unsaid (aside_row a l e n) ≡ aside_
 unfolding aside_row bare
 aside_less a l e n = refl
 
-zeros_less_f : {A : Type 0} (ts : Forest A) → map_f unsaid (zeros_f ts) ≡ zeros_f ts
+pub zeros_less_f : {A : Type 0} (ts : Forest A) → map_f unsaid (zeros_f ts) ≡ zeros_f ts
 unfolding zeros_f
 zeros_less_f ts = map_map_f unsaid (λ _. no_row) ts ∙ ap (λ (r : Row). map_f (λ _. r) ts) zero_less
 
@@ -106,26 +102,12 @@ flag_2 b = ap (λ (n : ℕ). eqb n 1) (go b)
     go : (b : ℕ) → (b % 512 + 1024 * (b / 1024)) / 4 % 2 ≡ b / 4 % 2
     go b = omega arith
 
-lower_less : (d : Float) (r : Row) → unsaid (lowered d r) ≡ lowered d (unsaid r)
+pub lower_less : (d : Float) (r : Row) → unsaid (lowered d r) ≡ lowered d (unsaid r)
 unfolding lowered is_laid is_out
 lower_less d r = rw (flag_0 r.bits, flag_2 r.bits)
 
-lower_t : (d : Float) (t : Tree Row) → map_t unsaid (on_root (lowered d) t) ≡ on_root (lowered d) (map_t unsaid t)
-unfolding map_t on_root
-lower_t d (node r ks) = ap (λ (x : Row). node x (map_f unsaid ks)) (lower_less d r)
-
-lower_f_lem : (d : Float) (ts : Forest Row) → map_f unsaid (lower_f d ts) ≡ lower_f d (map_f unsaid ts)
-unfolding lower_f map_f
-lower_f_lem d none = refl
-lower_f_lem d (more t ts) = rw (lower_t d t, lower_f_lem d ts)
-
-align_less : (d : OptionF32) (ts : Forest Row) → map_f unsaid (align_f d ts) ≡ align_f d (map_f unsaid ts)
-unfolding align_f
-align_less None ts = refl
-align_less (Some d) ts = lower_f_lem d ts
-
 -- ---- the cursor
-start_less : (f : Frame) → still (start_of f) ≡ start_of f
+pub start_less : (f : Frame) → still (start_of f) ≡ start_of f
 unfolding start_of
 start_less f = refl
 
@@ -155,45 +137,13 @@ line_less : (f : Frame) (c : Cursor) → line_of f (still c) ≡ line_of f c
 unfolding line_of at_top
 line_less f c = refl
 
-finish_shift : (s : Style) (q : LayoutInput) (f : Frame) (c : Cursor) → (finished (unlined s) q f (still c)).shift ≡ (finished s q f c).shift
+pub finish_shift : (s : Style) (q : LayoutInput) (f : Frame) (c : Cursor) → (finished (unlined s) q f (still c)).shift ≡ (finished s q f c).shift
 unfolding finished step_k extra_of at_top step_m
 finish_shift s q f c = refl
 
-finish_less : (s : Style) (q : LayoutInput) (f : Frame) (c : Cursor) → quiet (finished s q f c).output ≡ (finished (unlined s) q f (still c)).output
+pub finish_less : (s : Style) (q : LayoutInput) (f : Frame) (c : Cursor) → quiet (finished s q f c).output ≡ (finished (unlined s) q f (still c)).output
 unfolding finished output_of step_k extra_of at_top step_n
 finish_less s q f c = rw (none_out (unlined s) (step_m (unlined s) f (step_l f (step_k f (still c))) (step_k f (still c))))
-
--- ---- one node
-leaf_node : (l : Node) (q : LayoutInput) (ks : Forest Node) → Small l → LessLaid (leaf_laid l q ks) (leaf_laid (unlined_node l) q (map_f unlined_node ks))
-unfolding leaf_laid map_t
-leaf_node l q ks v =
-    let e = same_leaf l.site.style.measure q in
-    record {
-      same_out = e;
-      same_rows = rw (row_less q (leaf_output l.site.style.measure q) l.probe v, zeros_less_f ks, zeros_f_lem unlined_node ks, e);
-    }
-
-box_node : (l : Node) (q : LayoutInput) (f : Frame) (a b : Stacked) → Small l → LessStack a b → LessLaid (block_laid l q f a) (block_laid (unlined_node l) q f b)
-unfolding block_laid map_t
-box_node l q f a b v h =
-    let s = l.site.style in
-    let e = finish_less s q f a.last ∙ ap (λ (c : Cursor). (finished (unlined s) q f c).output) h.same_last in
-    let d = sym (finish_shift s q f a.last) ∙ ap (λ (c : Cursor). (finished (unlined s) q f c).shift) h.same_last in
-    record {
-      same_out = e;
-      same_rows = rw (row_less q (finished s q f a.last).output l.probe v, align_less (finished s q f a.last).shift a.rows, h.same_rows, e, d);
-    }
-
-lay_node : (l : Node) (ks : Forest Node) (q : LayoutInput) (found : Float) → New l → ((f : Frame) (c : Cursor) → LessStack (lay_f ks f c) (lay_f (map_f unlined_node ks) f (still c)))
-    → LessLaid (lay_t (node l ks) q found) (lay_t (node (unlined_node l) (map_f unlined_node ks)) q found)
-lay_node l ks q found n h = go (is_leaf l.site.style.kind) refl
-  where
-    go : (b : Bool) → is_leaf l.site.style.kind ≡ b → LessLaid (lay_t (node l ks) q found) (lay_t (node (unlined_node l) (map_f unlined_node ks)) q found)
-    go true e = rw (lay_t_leaf l ks q found e, lay_t_leaf (unlined_node l) (map_f unlined_node ks) q found e) (leaf_node l q ks n.small)
-    go false e =
-        let f : Frame = frame_of l.site.style q found in
-        rw (lay_t_block l ks q found e, lay_t_block (unlined_node l) (map_f unlined_node ks) q found e, same_frame l.site.style q found)
-        (box_node l q f _ _ n.small (rw (start_less f) at (h f (start_of f))))
 
 -- ---- one child
 skip_less : (c : Cursor) (t : Tree Node) (g h : Cursor → Stacked) → ((d : Cursor) → LessStack (g d) (h (still d))) → LessStack (skip c t g) (skip (still c) (map_t unlined_node t) h)
@@ -231,7 +181,7 @@ place_node f c s a b g h x r =
 unlined_style : (t : Tree Node) → style_t (map_t unlined_node t) ≡ unlined (style_t t)
 unlined_style t = ap (λ (n : Node). n.site.style) (root_t_map unlined_node t)
 
-more_less : (t : Tree Node) (ts : Forest Node) (f : Frame) (c : Cursor) → New (root_t t) → ((q : LayoutInput) → LessLaid (lay_t t q zero_f) (lay_t (map_t unlined_node t) q zero_f))
+pub more_less : (t : Tree Node) (ts : Forest Node) (f : Frame) (c : Cursor) → New (root_t t) → ((q : LayoutInput) → LessLaid (lay_t t q zero_f) (lay_t (map_t unlined_node t) q zero_f))
     → ((d : Cursor) → LessStack (lay_f ts f d) (lay_f (map_f unlined_node ts) f (still d))) → LessStack (lay_f (more t ts) f c) (lay_f (more (map_t unlined_node t) (map_f unlined_node ts)) f (still c))
 more_less t ts f c n h k = go (flow_of (style_t t)) refl
   where
@@ -254,24 +204,6 @@ more_less t ts f c n h k = go (flow_of (style_t t)) refl
         let q : LayoutInput = question_to f (style_t t) in
         rw (lay_f_in t ts f c e, lay_f_in u us f (still c) (flows ∙ e), unlined_style t, same_question f (style_t t), asked_new t q n.unlaid, asked_new u q new) (place_node f c (style_t t) _ _ _ _ (h q) k)
 
-mutual
-  unfolding AllT
-
-  less_t : (t : Tree Node) → AllT New t → (q : LayoutInput) (found : Float) → LessLaid (lay_t t q found) (lay_t (map_t unlined_node t) q found)
-  less_t (node l ks) h q found = rw (map_t_node unlined_node l ks) (lay_node l ks q found h.0 (λ f c. less_f ks h.1 f c))
-
-  less_f : (ts : Forest Node) → AllF New ts → (f : Frame) (c : Cursor) → LessStack (lay_f ts f c) (lay_f (map_f unlined_node ts) f (still c))
-  less_f none h f c = rw (map_f_none unlined_node, lay_f_none f c, lay_f_none f (still c)) (record { same_last = refl; same_rows = map_f_none unsaid })
-  less_f (more t ts) h f c = rw (map_f_more unlined_node t ts) (more_less t ts f c (new_root t h.0) (λ q. less_t t h.0 q zero_f) (λ d. less_f ts h.1 f d))
-
-unlined_blank : (t : Tree Site) → map_t blank (map_t unlined_site t) ≡ map_t (cell_by unlined) (map_t blank t)
+pub unlined_blank : (t : Tree Site) → map_t blank (map_t unlined_site t) ≡ map_t (cell_by unlined) (map_t blank t)
 unfolding blank
 unlined_blank t = map_map_t blank unlined_site t ∙ sym (map_map_t (cell_by unlined) blank t)
-
--- ---- Whatever baselines a page has: its answer without the baseline, and its rows without number 15 and bit 9, are those of the page without bit 16.
-pub other_words : (t : Tree Site) (q : LayoutInput) → LessLaid (fresh t q) (fresh (map_t unlined_site t) q)
-unfolding fresh relaid
-other_words t q =
-    let p = width_pass (map_t blank t) q in
-    let e : width_pass (map_t blank (map_t unlined_site t)) q ≡ on_passed unlined p = ap (λ (u : Tree Cell). width_pass u q) (unlined_blank t) ∙ pass-restyled unlined unseen (map_t blank t) q in
-    rw e (less_t p.nodes (new_nodes t q) q p.found)

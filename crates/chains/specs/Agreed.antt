@@ -1,35 +1,26 @@
 -- Two pages that differ only below a node that a relayout keeps, on rows that a layout left: all that `relayouts_agree` supposes, and that the pages do differ.
-use Rattle.std.specs.Prelude.{◌≡◌, refl, Bool, true, List, [], ℕ, ◌+◌, ◌*◌, ◌<◌, get_or, Float}
-use Rattle.std.proofs.Common.{ap, ◌∙◌}
+use Rattle.std.specs.Prelude.{◌≡◌, refl, Bool, true, List, [], ℕ, ◌+◌, ◌*◌, get_or, Float}
 use Rattle.std.specs.Float.Ieee.{to_bits}
 use Rattle.std.specs.Float.{binary32}
 use Rattle.geometry.specs.Geometry.{zero_f}
 use Rattle.style.specs.Style.{number_at}
-use Rattle.steps.specs.Page.{nodes_in}
 use Rattle.steps.specs.Noes.{relayout_tested}
 use Rattle.steps.specs.Results.{layout_result, relayout_result}
 use Rattle.steps.specs.declared.Tested.TheVariants.{Pass}
 use Rattle.steps.proofs.Computed.{calls}
-use Rattle.laws.specs.Trees.{false_true}
 use Rattle.laws.specs.Below.{under, below_t, below_kept}
-use Rattle.laws.specs.Tables.{Checks, AgreeAt, below_at}
-use Rattle.laws.proofs.Demand3.{relayouts_agree}
+use Rattle.laws.specs.Tables.{below_at}
 use Rattle.laws.specs.Examples.{free, probe_words, probe_was}
-use Rattle.chains.specs.Pages.{low, tall, leaf_high, no_rows, no_marks, changed, four_tall, same_shape}
+use Rattle.chains.specs.Pages.{low, tall, leaf_high, no_rows, no_marks}
 use Rattle.chains.specs.Chain.{first, box}
 
 -- which nodes lie below a kept one: the leaf alone
 abbrev pub below_first : ℕ → Bool
 below_first i = below_at probe_words tall first.rows first.marks box free i
 
-below_leaf : below_first 2 ≡ true
+pub below_leaf : below_first 2 ≡ true
 unfolding calls first low tall free probe_words probe_was under below_t below_kept below_at
 below_leaf = refl
-
--- the leaf lies below A; no other node is changed
-pub agree : (i : ℕ) → i < nodes_in probe_words → AgreeAt probe_words tall probe_words leaf_high (below_first i) i
-unfolding leaf_high
-agree i h = record { same = λ e. changed probe_words tall 4 2 _ _ i four_tall refl (λ p. false_true (below_first i) e (ap below_first p ∙ below_leaf)); kind = refl; position = refl }
 
 -- both relayouts pass the tests
 pub tall_passes : relayout_tested probe_words tall first.rows first.marks [] [] box free ≡ Pass
@@ -40,17 +31,13 @@ pub high_passes : relayout_tested probe_words leaf_high first.rows first.marks [
 unfolding calls first low tall leaf_high free probe_words probe_was
 high_passes = refl
 
--- so the theorem says of these two pages that one result is left
-pub agreed : Checks → relayout_result probe_words tall first.rows first.marks [] [] box free ≡ relayout_result probe_words leaf_high first.rows first.marks [] [] box free
-agreed c = relayouts_agree c probe_words tall probe_words leaf_high first.rows first.marks [] [] box free (same_shape probe_words) agree tall_passes high_passes
-
 -- the pages differ: the leaf's height is 7 or 9, and a layout of each tells them apart
 pub leaf_differs : (to_bits binary32 (number_at tall 2 26) ≡ 0x40e0_0000) × (to_bits binary32 (number_at leaf_high 2 26) ≡ 0x4110_0000)
 unfolding calls low tall leaf_high probe_was
 leaf_differs = (refl, refl)
 
 -- the height of node i in rows
-abbrev height_in : List Float → ℕ → ℕ
+abbrev pub height_in : List Float → ℕ → ℕ
 height_in rs i = to_bits binary32 (get_or rs (i * 16 + 3) zero_f)
 
 pub layouts_differ : (height_in (layout_result probe_words tall no_rows no_marks [] [] free).rows 2 ≡ 0x40e0_0000) × (height_in (layout_result probe_words leaf_high no_rows no_marks [] [] free).rows 2 ≡ 0x4110_0000)

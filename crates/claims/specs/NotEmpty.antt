@@ -4,8 +4,8 @@ use Rattle.steps.specs.Results.{layout_result, relayout_result}
 use Rattle.laws.specs.Examples.{free, probe_words}
 use Rattle.chains.specs.Pages.{tall, taller, leaf_high}
 use Rattle.chains.specs.Chain.{box, first, second, third}
-use Rattle.chains.specs.Chain as chain
-use Rattle.chains.specs.Agreed as agreed
+use Rattle.chains.proofs.Chain as chain
+use Rattle.chains.proofs.Agreed as agreed
 use Rattle.claims.specs.Discharged.{checks}
 
 -- the last of a layout and two relayouts gives what a layout gives

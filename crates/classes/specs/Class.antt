@@ -3,11 +3,11 @@ use Rattle.std.specs.Prelude.{◌≡◌, refl, Bool, true, false, ◌&&◌}
 use Rattle.std.proofs.Common.{sym, ◌∙◌, inl, inr, true≢false}
 use Rattle.tree.specs.Tree.{Tree, Forest, node, none, more}
 use Rattle.margin.specs.declared.CollapsibleMarginSet.{CollapsibleMarginSet}
-use Rattle.classes.specs.Margins.{Box, Side, Top, Bottom, MarT, MarF, Own, FirstTop, LastBottom, IsNone, LinkT, LinkF, Joined, back}
+use Rattle.classes.specs.Margins.{Box, Side, Top, Bottom, MarT, MarF, Own, FirstTop, LastBottom, IsNone, LinkT, LinkF, Joined}
 use Rattle.classes.specs.Spots.{SpotT, SpotF, own_top, top_t, top_f, IsChild, ParentT, ParentF}
-use Rattle.classes.specs.Stacking.{thru_t, Cur, begin, past, top_set, bot_set, thru_at_t, thru_at_f, out_at_t, out_at_f}
-use Rattle.classes.specs.Collect.{Iff, LeftF, BotC, BelowT, below, NoBridgeF, ClosedT, ClosedF, both, left, right, with_it, own_up, own_dn, top_bottom, bot_top, first_left, left_closed, bot_closed}
-use Rattle.classes.specs.Linked.{carry, chain, close, own, own_bottom, first_of, left_joined, bot_joined}
+use Rattle.classes.specs.Stacking.{thru_t, Cur, begin, past, top_set, bot_set, thru_at_f, out_at_t, out_at_f}
+use Rattle.classes.specs.Collect.{LeftF, BotC, ClosedT, ClosedF, both, left, right, with_it, own_up, own_dn, top_bottom, bot_top, first_left}
+use Rattle.classes.specs.Linked.{carry}
 
 -- it is a child and all before it are through: its class reaches the left edge
 abbrev pub reach : (ts : Forest Box) → SpotF ts → Bool
@@ -45,7 +45,7 @@ own_cls : (s : Side) (t : Tree Box) (p : SpotT t) (m : MarT t) → Own s t m →
 own_cls s (node a ks) p (inl r) h c = c
 own_cls s (node a ks) p (inr m) h c = h
 
-reach_first : (ts : Forest Box) (p : SpotF ts) (m : MarF ts) → reach ts p ≡ true → FirstTop ts m → ClsF ts p m
+pub reach_first : (ts : Forest Box) (p : SpotF ts) (m : MarF ts) → reach ts p ≡ true → FirstTop ts m → ClsF ts p m
 reach_first none p m e h = h
 reach_first (more t ts) (inl u) m e h = first_left (more t ts) m h
 reach_first (more t ts) (inr (inl p)) m e h = absurd (true≢false (sym e))
@@ -75,7 +75,7 @@ last_never (more t ts) (inr (inr p)) (inr m) e h c = last_never ts p m e h c
 
 -- ---- closed under links
 
-cls_node : (a : Box) (ks : Forest Box) (p : SpotF ks) → thru_at_f ks p ≡ false → InT (node a ks) p → ClosedF ks (ClsF ks p) → ClosedT (node a ks) (ClsT (node a ks) p)
+pub cls_node : (a : Box) (ks : Forest Box) (p : SpotF ks) → thru_at_f ks p ≡ false → InT (node a ks) p → ClosedF ks (ClsF ks p) → ClosedT (node a ks) (ClsT (node a ks) p)
 cls_node a ks p e i h (inl Top) (inl z) k = (λ x. absurd x, λ x. absurd x)
 cls_node a ks p e i h (inl Bottom) (inl z) k = absurd k
 cls_node a ks p e i h (inl Top) (inr n) k = (λ x. absurd x, λ x. i.0 k.0 (first_reach ks p n k.1 x))
@@ -84,64 +84,33 @@ cls_node a ks p e i h (inr m) (inl Top) k = absurd k
 cls_node a ks p e i h (inr m) (inl Bottom) k = (λ x. last_never ks p m e k.1 x, λ x. absurd x)
 cls_node a ks p e i h (inr m) (inr n) k = h m n k
 
-cls_later : (t : Tree Box) (ts : Forest Box) (p : SpotF ts) → ClosedT t (BotC t) → ClosedF ts (ClsF ts p) → ClosedF (more t ts) (ClsF (more t ts) (inr (inr p)))
+pub cls_later : (t : Tree Box) (ts : Forest Box) (p : SpotF ts) → ClosedT t (BotC t) → ClosedF ts (ClsF ts p) → ClosedF (more t ts) (ClsF (more t ts) (inr (inr p)))
 cls_later t ts p b h (inl m) (inl n) k = with_it (b m n k)
 cls_later t ts p b h (inl m) (inr n) k = (λ x. reach_first ts p n x.0 k.1, λ x. (first_reach ts p n k.1 x, inl (own_dn t m k.0)))
 cls_later t ts p b h (inr m) (inl n) k = absurd k
 cls_later t ts p b h (inr m) (inr n) k = h m n k
 
-cls_below : (t : Tree Box) (ts : Forest Box) (p : SpotT t) → ClosedT t (ClsT t p) → ClosedF (more t ts) (ClsF (more t ts) (inr (inl p)))
+pub cls_below : (t : Tree Box) (ts : Forest Box) (p : SpotT t) → ClosedT t (ClsT t p) → ClosedF (more t ts) (ClsF (more t ts) (inr (inl p)))
 cls_below t ts p h (inl m) (inl n) k = h m n k
 cls_below t ts p h (inl m) (inr n) k = (λ x. absurd (own_cls Bottom t p m k.0 x), λ x. absurd x)
 cls_below t ts p h (inr m) (inl n) k = absurd k
 cls_below t ts p h (inr m) (inr n) k = (λ x. absurd x, λ x. absurd x)
 
-mutual
-  pub cls_closed_t : (t : Tree Box) (p : SpotT t) → BelowT t → thru_at_t t p ≡ false → InT t p → ClosedT t (ClsT t p)
-  cls_closed_t (node a ks) p b e i = cls_node a ks p e i (cls_closed_f ks p b e i.1)
-
-  cls_closed_f : (ts : Forest Box) (p : SpotF ts) → NoBridgeF ts → thru_at_f ts p ≡ false → InF ts p → ClosedF ts (ClsF ts p)
-  cls_closed_f none p b e i = absurd p
-  cls_closed_f (more t ts) (inl u) b e i = left_closed (more t ts) b
-  cls_closed_f (more t ts) (inr (inl p)) b e i = cls_below t ts p (cls_closed_t t p (below t b.0) e i)
-  cls_closed_f (more t ts) (inr (inr p)) b e i = cls_later t ts p (bot_closed t b.0) (cls_closed_f ts p b.1 e i)
-
 -- ---- joined by links
 
-abbrev ClsJT : (t : Tree Box) → SpotT t → Type 0
+abbrev pub ClsJT : (t : Tree Box) → SpotT t → Type 0
 ClsJT t p = (m : MarT t) → ClsT t p m → Joined (LinkT t) (top_t t p) m
 
-abbrev ClsJF : (ts : Forest Box) → SpotF ts → Type 0
+abbrev pub ClsJF : (ts : Forest Box) → SpotF ts → Type 0
 ClsJF ts p = (m : MarF ts) → ClsF ts p m → Joined (LinkF ts) (top_f ts p) m
 
-joined_node : (a : Box) (ks : Forest Box) (p : SpotF ks) → ClsJF ks p → ClsJT (node a ks) p
+pub joined_node : (a : Box) (ks : Forest Box) (p : SpotF ks) → ClsJF ks p → ClsJT (node a ks) p
 joined_node a ks p h (inl s) c = absurd c
 joined_node a ks p h (inr m) c = carry (LinkF ks) (LinkT (node a ks)) (λ m. inr m) (λ m n r. r) (top_f ks p) m (h m c)
 
-joined_this : (t : Tree Box) (ts : Forest Box) → ClsJF (more t ts) (inl tt)
-joined_this (node a ks) ts m c = left_joined (more (node a ks) ts) m c (inl (inl Top)) tt
-
-joined_below : (t : Tree Box) (ts : Forest Box) (p : SpotT t) → ClsJT t p → ClsJF (more t ts) (inr (inl p))
+pub joined_below : (t : Tree Box) (ts : Forest Box) (p : SpotT t) → ClsJT t p → ClsJF (more t ts) (inr (inl p))
 joined_below t ts p h (inl m) c = carry (LinkT t) (LinkF (more t ts)) (λ m. inl m) (λ m n r. r) (top_t t p) m (h m c)
 joined_below t ts p h (inr m) c = absurd c
-
-joined_later : (t : Tree Box) (ts : Forest Box) (p : SpotF ts) → ClsJF ts p → ClsJF (more t ts) (inr (inr p))
-joined_later t ts p h (inl m) c =
-    let f = first_of ts (top_f ts p) in
-    chain (LinkF (more t ts)) (inr (top_f ts p)) (inl (own Bottom t)) (inl m)
-    (back (inr f.0) (inl (own Bottom t)) (carry (LinkF ts) (LinkF (more t ts)) (λ m. inr m) (λ m n r. r) (top_f ts p) f.0 (h f.0 (reach_first ts p f.0 c.0 f.1))) (own_bottom t, f.1))
-    (carry (LinkT t) (LinkF (more t ts)) (λ m. inl m) (λ m n r. r) (own Bottom t) m (bot_joined t m c.1 (own Bottom t) (own_bottom t)))
-joined_later t ts p h (inr m) c = carry (LinkF ts) (LinkF (more t ts)) (λ m. inr m) (λ m n r. r) (top_f ts p) m (h m c)
-
-mutual
-  pub cls_joined_t : (t : Tree Box) (p : SpotT t) → ClsJT t p
-  cls_joined_t (node a ks) p = joined_node a ks p (cls_joined_f ks p)
-
-  pub cls_joined_f : (ts : Forest Box) (p : SpotF ts) → ClsJF ts p
-  cls_joined_f none p = absurd p
-  cls_joined_f (more t ts) (inl u) = joined_this t ts
-  cls_joined_f (more t ts) (inr (inl p)) = joined_below t ts p (cls_joined_t t p)
-  cls_joined_f (more t ts) (inr (inr p)) = joined_later t ts p (cls_joined_f ts p)
 
 -- it holds its own top
 cls_this : (t : Tree Box) (ts : Forest Box) → LeftF (more t ts) (inl (own_top t))
@@ -156,10 +125,6 @@ mutual
   cls_own_f (more t ts) (inl u) = cls_this t ts
   cls_own_f (more t ts) (inr (inl p)) = cls_own_t t p
   cls_own_f (more t ts) (inr (inr p)) = cls_own_f ts p
-
--- so it is the class
-pub is_class : (t : Tree Box) (p : SpotT t) → BelowT t → thru_at_t t p ≡ false → InT t p → (m : MarT t) → Iff (Joined (LinkT t) (top_t t p) m) (ClsT t p m)
-is_class t p b e i m = (close (LinkT t) (ClsT t p) (top_t t p) (cls_closed_t t p b e i) (cls_own_t t p) m, cls_joined_t t p m)
 
 -- and it does not hold the parent's top
 mutual
@@ -197,7 +162,7 @@ mutual
       let h = not_out_f ts s (past c (thru_t t) (top_set t) (bot_set t)) p e in
       (λ x y z. h.0 x (first_past c (thru_t t) (top_set t) (bot_set t) (left _ (reach ts p) z) y) (right (thru_t t) _ z), h.1)
 
-out_child : (ts : Forest Box) (s : Bool) (c : Cur) (p : SpotF ts) → IsChild ts p → out_at_f ts s c p ≡ true → (s ≡ true) × (c.first ≡ true) × (reach ts p ≡ true)
+pub out_child : (ts : Forest Box) (s : Bool) (c : Cur) (p : SpotF ts) → IsChild ts p → out_at_f ts s c p ≡ true → (s ≡ true) × (c.first ≡ true) × (reach ts p ≡ true)
 out_child none s c p h e = absurd h
 out_child (more t ts) s c (inl u) h e = (right c.first s e, left c.first s e, refl)
 out_child (more t ts) s c (inr (inl p)) h e = absurd h
@@ -206,34 +171,16 @@ out_child (more t ts) s c (inr (inr p)) h e =
     let f = past_first c (thru_t t) (top_set t) (bot_set t) k.1 in
     (k.0, f.1, both _ _ f.0 k.2)
 
-abbrev OutJT : (t : Tree Box) → SpotT t → Type 0
+abbrev pub OutJT : (t : Tree Box) → SpotT t → Type 0
 OutJT t p = (m : MarT t) → ParentT t p m → out_at_t t p ≡ true → Joined (LinkT t) (top_t t p) m
 
-abbrev OutJF : (ts : Forest Box) → SpotF ts → Type 0
+abbrev pub OutJF : (ts : Forest Box) → SpotF ts → Type 0
 OutJF ts p = (s : Bool) (c : Cur) (m : MarF ts) → ParentF ts p m → out_at_f ts s c p ≡ true → Joined (LinkF ts) (top_f ts p) m
 
-out_node : (a : Box) (ks : Forest Box) (p : SpotF ks) → OutJF ks p → OutJT (node a ks) p
-out_node a ks p j (inl Top) h e =
-    let o = out_child ks a.start begin p h e in
-    let f = first_of ks (top_f ks p) in
-    back (inr f.0) (inl Top) (carry (LinkF ks) (LinkT (node a ks)) (λ m. inr m) (λ m n r. r) (top_f ks p) f.0 (cls_joined_f ks p f.0 (reach_first ks p f.0 o.2 f.1))) (o.0, f.1)
-out_node a ks p j (inl Bottom) h e = absurd h
-out_node a ks p j (inr m) h e = carry (LinkF ks) (LinkT (node a ks)) (λ m. inr m) (λ m n r. r) (top_f ks p) m (j a.start begin m h e)
-
-out_below : (t : Tree Box) (ts : Forest Box) (p : SpotT t) → OutJT t p → OutJF (more t ts) (inr (inl p))
+pub out_below : (t : Tree Box) (ts : Forest Box) (p : SpotT t) → OutJT t p → OutJF (more t ts) (inr (inl p))
 out_below t ts p j s c (inl m) h e = carry (LinkT t) (LinkF (more t ts)) (λ m. inl m) (λ m n r. r) (top_t t p) m (j m h e)
 out_below t ts p j s c (inr m) h e = absurd h
 
-out_later : (t : Tree Box) (ts : Forest Box) (p : SpotF ts) → OutJF ts p → OutJF (more t ts) (inr (inr p))
+pub out_later : (t : Tree Box) (ts : Forest Box) (p : SpotF ts) → OutJF ts p → OutJF (more t ts) (inr (inr p))
 out_later t ts p j s c (inl m) h e = absurd h
 out_later t ts p j s c (inr m) h e = carry (LinkF ts) (LinkF (more t ts)) (λ m. inr m) (λ m n r. r) (top_f ts p) m (j s (past c (thru_t t) (top_set t) (bot_set t)) m h e)
-
-mutual
-  pub out_joined_t : (t : Tree Box) (p : SpotT t) → OutJT t p
-  out_joined_t (node a ks) p = out_node a ks p (out_joined_f ks p)
-
-  out_joined_f : (ts : Forest Box) (p : SpotF ts) → OutJF ts p
-  out_joined_f none p = absurd p
-  out_joined_f (more t ts) (inl u) = λ s c m h. absurd h
-  out_joined_f (more t ts) (inr (inl p)) = out_below t ts p (out_joined_t t p)
-  out_joined_f (more t ts) (inr (inr p)) = out_later t ts p (out_joined_f ts p)

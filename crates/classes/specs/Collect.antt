@@ -174,7 +174,7 @@ pub with_it : {A B C : Type 0} → Iff A B → Iff (C × A) (C × B)
 with_it p = (λ x. (x.0, p.0 x.1), λ x. (x.0, p.1 x.1))
 
 module _ (a : Box) (ks : Forest Box) (s : Sound a ks) (l : ClosedF ks (LeftF ks)) (r : ClosedF ks (RightF ks)) where
-  top-node : ClosedT (node a ks) (TopC (node a ks))
+  pub top-node : ClosedT (node a ks) (TopC (node a ks))
   top-node (inl Top) (inl Top) k = absurd k
   top-node (inl Top) (inl Bottom) k = (λ x. inr (k, tt), λ x. inl tt)
   top-node (inl Bottom) (inl z) k = absurd k
@@ -192,7 +192,7 @@ module _ (a : Box) (ks : Forest Box) (s : Sound a ks) (l : ClosedF ks (LeftF ks)
       here (inr x) = inr (x.0, (k.0, last_right ks m k.1))
   top-node (inr m) (inr n) k = two (with_it (l m n k)) (with_it (with_it (r m n k)))
 
-  bot-node : ClosedT (node a ks) (BotC (node a ks))
+  pub bot-node : ClosedT (node a ks) (BotC (node a ks))
   bot-node (inl Top) (inl Top) k = absurd k
   bot-node (inl Top) (inl Bottom) k = (λ x. inl tt, λ x. inr (k, tt))
   bot-node (inl Bottom) (inl z) k = absurd k
@@ -211,29 +211,14 @@ module _ (a : Box) (ks : Forest Box) (s : Sound a ks) (l : ClosedF ks (LeftF ks)
   bot-node (inr m) (inr n) k = two (with_it (r m n k)) (with_it (with_it (l m n k)))
 
 module _ (t : Tree Box) (ts : Forest Box) where
-  left-more : ClosedT t (TopC t) → ClosedF ts (LeftF ts) → ClosedF (more t ts) (LeftF (more t ts))
+  pub left-more : ClosedT t (TopC t) → ClosedF ts (LeftF ts) → ClosedF (more t ts) (LeftF (more t ts))
   left-more p l (inl m) (inl n) k = p m n k
   left-more p l (inl m) (inr n) k = (λ x. (top_bottom t m k.0 x, first_left ts n k.1), λ x. inr (x.0, own_dn t m k.0))
   left-more p l (inr m) (inl n) k = absurd k
   left-more p l (inr m) (inr n) k = with_it (l m n k)
 
-  right-more : ClosedT t (BotC t) → ClosedF ts (RightF ts) → ClosedF (more t ts) (RightF (more t ts))
+  pub right-more : ClosedT t (BotC t) → ClosedF ts (RightF ts) → ClosedF (more t ts) (RightF (more t ts))
   right-more p r (inl m) (inl n) k = with_it (p m n k)
   right-more p r (inl m) (inr n) k = (λ x. left_right ts n x.0 (first_left ts n k.1), λ x. (right_first ts n k.1 x, inl (own_dn t m k.0)))
   right-more p r (inr m) (inl n) k = absurd k
   right-more p r (inr m) (inr n) k = r m n k
-
-mutual
-  pub top_closed : (t : Tree Box) → NoBridgeT t → ClosedT t (TopC t)
-  top_closed (node a ks) h = top-node a ks h.0 (left_closed ks h.1) (right_closed ks h.1)
-
-  pub bot_closed : (t : Tree Box) → NoBridgeT t → ClosedT t (BotC t)
-  bot_closed (node a ks) h = bot-node a ks h.0 (left_closed ks h.1) (right_closed ks h.1)
-
-  pub left_closed : (ts : Forest Box) → NoBridgeF ts → ClosedF ts (LeftF ts)
-  left_closed none h = λ m n k. absurd k
-  left_closed (more t ts) h = left-more t ts (top_closed t h.0) (left_closed ts h.1)
-
-  pub right_closed : (ts : Forest Box) → NoBridgeF ts → ClosedF ts (RightF ts)
-  right_closed none h = λ m n k. absurd k
-  right_closed (more t ts) h = right-more t ts (bot_closed t h.0) (right_closed ts h.1)

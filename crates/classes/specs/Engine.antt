@@ -1,40 +1,38 @@
 -- A plain engine that computes: the margins of a class as a list, and their sum.
 use Rattle.std.specs.Prelude.{◌≡◌, refl, ◌⊎◌, Bool, true, false, ◌&&◌, List, [], ◌∷◌, ◌++◌, map, ℕ, Float}
-use Rattle.std.proofs.Common.{sym, ap, ◌∙◌, inl, inr, true≢false}
+use Rattle.std.proofs.Common.{sym, inl, inr, true≢false}
 use Rattle.tree.specs.Tree.{Tree, Forest, node, none, more}
 use Rattle.margin.specs.Margin.{no_margins, set_of, joined, sum_of}
 use Rattle.margin.specs.declared.CollapsibleMarginSet.{CollapsibleMarginSet}
 use Rattle.classes.specs.Margins.{Box, Top, Bottom, MarT, MarF, val_t, val_f, Values}
-use Rattle.classes.specs.Spots.{SpotT, SpotF, box_at_t, ClassOf}
-use Rattle.classes.specs.Stacking.{thru_t, all_thru, Cur, begin, past, top_set, bot_set, thru_at_t, out_at_t, out_at_f, gap_at}
-use Rattle.classes.specs.Sets.{Pair, pair_same, pair_none, pair_one, pair_join}
-use Rattle.classes.specs.Collect.{Iff, UpT, DnT, LeftF, RightF, TopC, BotC, BelowT}
-use Rattle.classes.specs.Class.{reach, ClsT, ClsF, is_class, not_out_t}
+use Rattle.classes.specs.Spots.{SpotT, SpotF, box_at_t}
+use Rattle.classes.specs.Stacking.{thru_t, all_thru, Cur, past}
+use Rattle.classes.specs.Sets.{Pair, pair_none, pair_one, pair_join}
+use Rattle.classes.specs.Collect.{Iff, UpT, DnT, LeftF, TopC, BotC}
+use Rattle.classes.specs.Class.{reach, ClsT, ClsF}
 use Rattle.classes.specs.Pairs.{UpV, DnV, LeftV, RightV}
-use Rattle.classes.specs.Theorem.{gap_is_sum}
-use Rattle.classes.specs.Once.{FitsC, sum-once}
 
-abbrev app : List Float → List Float → List Float
+abbrev pub app : List Float → List Float → List Float
 app [] k = k
 app (x ∷ l) k = x ∷ app l k
 
-abbrev only_if : Bool → List Float → List Float
+abbrev pub only_if : Bool → List Float → List Float
 only_if true l = l
 only_if false l = []
 
 -- the margins that a box's top takes, its bottom, the left edge of siblings, their right edge
 abbrev mutual
-  up_l : Tree Box → List Float
+  pub up_l : Tree Box → List Float
   up_l (node a ks) = a.above ∷ only_if a.start (left_l ks)
 
-  dn_l : Tree Box → List Float
+  pub dn_l : Tree Box → List Float
   dn_l (node a ks) = a.under ∷ only_if a.end (right_l ks)
 
-  left_l : Forest Box → List Float
+  pub left_l : Forest Box → List Float
   left_l none = []
   left_l (more t ts) = app (app (up_l t) (only_if (thru_t t) (dn_l t))) (only_if (thru_t t) (left_l ts))
 
-  right_l : Forest Box → List Float
+  pub right_l : Forest Box → List Float
   right_l none = []
   right_l (more t ts) = app (only_if (all_thru ts) (app (dn_l t) (only_if (thru_t t) (up_l t)))) (right_l ts)
 
@@ -91,7 +89,7 @@ in_if : (b : Bool) (l : List Float) (x : Float) → Iff (In (only_if b l) x) ((b
 in_if true l x = (λ h. (refl, h), λ h. h.1)
 in_if false l x = (λ h. absurd h, λ h. absurd (true≢false (sym h.0)))
 
-then : {A B C : Type 0} → Iff A B → Iff B C → Iff A C
+pub then : {A B C : Type 0} → Iff A B → Iff B C → Iff A C
 then p q = (λ a. q.0 (p.0 a), λ c. p.1 (q.1 c))
 
 either : {A B C D : Type 0} → Iff A B → Iff C D → Iff (A ⊎ C) (B ⊎ D)
@@ -108,18 +106,18 @@ either {A} {B} {C} {D} p q = (there, here)
 given : {A B C : Type 0} → Iff A B → Iff (C × A) (C × B)
 given p = (λ x. (x.0, p.0 x.1), λ x. (x.0, p.1 x.1))
 
-app_if : (b : Bool) (l k : List Float) (x : Float) (P Q : Type 0) → Iff (In l x) P → Iff (In k x) Q → Iff (In (app l (only_if b k)) x) (P ⊎ ((b ≡ true) × Q))
+pub app_if : (b : Bool) (l k : List Float) (x : Float) (P Q : Type 0) → Iff (In l x) P → Iff (In k x) Q → Iff (In (app l (only_if b k)) x) (P ⊎ ((b ≡ true) × Q))
 app_if b l k x P Q p q = then (in_app l (only_if b k) x) (either p (then (in_if b k x) (given q)))
 
-if_app : (b : Bool) (l k : List Float) (x : Float) (P Q : Type 0) → Iff (In l x) P → Iff (In k x) Q → Iff (In (app (only_if b l) k) x) (((b ≡ true) × P) ⊎ Q)
+pub if_app : (b : Bool) (l k : List Float) (x : Float) (P Q : Type 0) → Iff (In l x) P → Iff (In k x) Q → Iff (In (app (only_if b l) k) x) (((b ≡ true) × P) ⊎ Q)
 if_app b l k x P Q p q = then (in_app (only_if b l) k x) (either (then (in_if b l x) (given p)) q)
 
-cons_if : (y : Float) (b : Bool) (l : List Float) (x : Float) (Q : Type 0) → Iff (In l x) Q → Iff (In (y ∷ only_if b l) x) ((x ≡ y) ⊎ ((b ≡ true) × Q))
+pub cons_if : (y : Float) (b : Bool) (l : List Float) (x : Float) (Q : Type 0) → Iff (In l x) Q → Iff (In (y ∷ only_if b l) x) ((x ≡ y) ⊎ ((b ≡ true) × Q))
 cons_if y b l x Q q = either (λ h. h, λ h. h) (then (in_if b l x) (given q))
 
 -- ---- values, by cases
 
-up_cases : (a : Box) (ks : Forest Box) (x : Float) → Iff ((x ≡ a.above) ⊎ ((a.start ≡ true) × LeftV ks x)) (UpV (node a ks) x)
+pub up_cases : (a : Box) (ks : Forest Box) (x : Float) → Iff ((x ≡ a.above) ⊎ ((a.start ≡ true) × LeftV ks x)) (UpV (node a ks) x)
 up_cases a ks x = (there, λ h. here h.0 h.1 h.2)
   where
     there : (x ≡ a.above) ⊎ ((a.start ≡ true) × LeftV ks x) → UpV (node a ks) x
@@ -131,7 +129,7 @@ up_cases a ks x = (there, λ h. here h.0 h.1 h.2)
     here (inl Bottom) u v = absurd u
     here (inr m) u v = inr (u.0, (m, u.1, v))
 
-dn_cases : (a : Box) (ks : Forest Box) (x : Float) → Iff ((x ≡ a.under) ⊎ ((a.end ≡ true) × RightV ks x)) (DnV (node a ks) x)
+pub dn_cases : (a : Box) (ks : Forest Box) (x : Float) → Iff ((x ≡ a.under) ⊎ ((a.end ≡ true) × RightV ks x)) (DnV (node a ks) x)
 dn_cases a ks x = (there, λ h. here h.0 h.1 h.2)
   where
     there : (x ≡ a.under) ⊎ ((a.end ≡ true) × RightV ks x) → DnV (node a ks) x
@@ -143,13 +141,13 @@ dn_cases a ks x = (there, λ h. here h.0 h.1 h.2)
     here (inl Bottom) u v = inl (sym v)
     here (inr m) u v = inr (u.0, (m, u.1, v))
 
-abbrev TopV : Tree Box → Float → Type 0
+abbrev pub TopV : Tree Box → Float → Type 0
 TopV t x = UpV t x ⊎ ((thru_t t ≡ true) × DnV t x)
 
-abbrev BotV : Tree Box → Float → Type 0
+abbrev pub BotV : Tree Box → Float → Type 0
 BotV t x = DnV t x ⊎ ((thru_t t ≡ true) × UpV t x)
 
-left_cases : (t : Tree Box) (ts : Forest Box) (x : Float) → Iff (TopV t x ⊎ ((thru_t t ≡ true) × LeftV ts x)) (LeftV (more t ts) x)
+pub left_cases : (t : Tree Box) (ts : Forest Box) (x : Float) → Iff (TopV t x ⊎ ((thru_t t ≡ true) × LeftV ts x)) (LeftV (more t ts) x)
 left_cases t ts x = (there, λ h. here h.0 h.1 h.2)
   where
     there : TopV t x ⊎ ((thru_t t ≡ true) × LeftV ts x) → LeftV (more t ts) x
@@ -166,7 +164,7 @@ left_cases t ts x = (there, λ h. here h.0 h.1 h.2)
     here (inr m) l v = inr (l.0, (m, l.1, v))
 
 -- the right edge, and a later box: by what b says
-bot_cases : (t : Tree Box) (ts : Forest Box) (b : Bool) (C : MarF ts → Type 0) (D : MarF (more t ts) → Type 0) (x : Float)
+pub bot_cases : (t : Tree Box) (ts : Forest Box) (b : Bool) (C : MarF ts → Type 0) (D : MarF (more t ts) → Type 0) (x : Float)
     → ((m : MarT t) → Iff ((b ≡ true) × BotC t m) (D (inl m))) → ((m : MarF ts) → Iff (C m) (D (inr m)))
     → Iff (((b ≡ true) × BotV t x) ⊎ Values (val_f ts) C x) (Values (val_f (more t ts)) D x)
 bot_cases t ts b C D x f g = (there, λ h. here h.0 h.1 h.2)
@@ -189,51 +187,22 @@ bot_cases t ts b C D x f g = (there, λ h. here h.0 h.1 h.2)
 
 -- ---- the lists hold just the values
 
-no_values : (C : MarF none → Type 0) (x : Float) → Iff ⊥ (Values (val_f none) C x)
+pub no_values : (C : MarF none → Type 0) (x : Float) → Iff ⊥ (Values (val_f none) C x)
 no_values C x = (λ h. absurd h, λ h. absurd h.0)
 
-mutual
-  in_up : (t : Tree Box) (x : Float) → Iff (In (up_l t) x) (UpV t x)
-  in_up (node a ks) x = then (cons_if a.above a.start (left_l ks) x (LeftV ks x) (in_left ks x)) (up_cases a ks x)
-
-  in_dn : (t : Tree Box) (x : Float) → Iff (In (dn_l t) x) (DnV t x)
-  in_dn (node a ks) x = then (cons_if a.under a.end (right_l ks) x (RightV ks x) (in_right ks x)) (dn_cases a ks x)
-
-  in_left : (ts : Forest Box) (x : Float) → Iff (In (left_l ts) x) (LeftV ts x)
-  in_left none x = no_values (LeftF none) x
-  in_left (more t ts) x = then (app_if (thru_t t) (app (up_l t) (only_if (thru_t t) (dn_l t))) (left_l ts) x (TopV t x) (LeftV ts x) (app_if (thru_t t) (up_l t) (dn_l t) x (UpV t x) (DnV t x) (in_up t x) (in_dn t x)) (in_left ts x)) (left_cases t ts x)
-
-  in_right : (ts : Forest Box) (x : Float) → Iff (In (right_l ts) x) (RightV ts x)
-  in_right none x = no_values (RightF none) x
-  in_right (more t ts) x =
-      then (if_app (all_thru ts) (app (dn_l t) (only_if (thru_t t) (up_l t))) (right_l ts) x (BotV t x) (RightV ts x) (app_if (thru_t t) (dn_l t) (up_l t) x (DnV t x) (UpV t x) (in_dn t x) (in_up t x)) (in_right ts x))
-      (bot_cases t ts (all_thru ts) (RightF ts) (RightF (more t ts)) x (λ m. (λ h. h, λ h. h)) (λ m. (λ h. h, λ h. h)))
-
-below_cases : (t : Tree Box) (ts : Forest Box) (p : SpotT t) (x : Float) → Iff (Values (val_t t) (ClsT t p) x) (Values (val_f (more t ts)) (ClsF (more t ts) (inr (inl p))) x)
+pub below_cases : (t : Tree Box) (ts : Forest Box) (p : SpotT t) (x : Float) → Iff (Values (val_t t) (ClsT t p) x) (Values (val_f (more t ts)) (ClsF (more t ts) (inr (inl p))) x)
 below_cases t ts p x = (λ h. (inl h.0, h.1, h.2), λ h. here h.0 h.1 h.2)
   where
     here : (m : MarF (more t ts)) → ClsF (more t ts) (inr (inl p)) m → val_f (more t ts) m ≡ x → Values (val_t t) (ClsT t p) x
     here (inl m) c v = (m, c, v)
     here (inr m) c v = absurd c
 
-node_cases : (a : Box) (ks : Forest Box) (p : SpotF ks) (x : Float) → Iff (Values (val_f ks) (ClsF ks p) x) (Values (val_t (node a ks)) (ClsT (node a ks) p) x)
+pub node_cases : (a : Box) (ks : Forest Box) (p : SpotF ks) (x : Float) → Iff (Values (val_f ks) (ClsF ks p) x) (Values (val_t (node a ks)) (ClsT (node a ks) p) x)
 node_cases a ks p x = (λ h. (inr h.0, h.1, h.2), λ h. here h.0 h.1 h.2)
   where
     here : (m : MarT (node a ks)) → ClsT (node a ks) p m → val_t (node a ks) m ≡ x → Values (val_f ks) (ClsF ks p) x
     here (inl s) c v = absurd c
     here (inr m) c v = (m, c, v)
-
-mutual
-  pub in_class_t : (t : Tree Box) (p : SpotT t) (x : Float) → Iff (In (class_t t p) x) (Values (val_t t) (ClsT t p) x)
-  in_class_t (node a ks) p x = then (in_class_f ks p x) (node_cases a ks p x)
-
-  pub in_class_f : (ts : Forest Box) (p : SpotF ts) (x : Float) → Iff (In (class_f ts p) x) (Values (val_f ts) (ClsF ts p) x)
-  in_class_f none p x = absurd p
-  in_class_f (more t ts) (inl u) x = in_left (more t ts) x
-  in_class_f (more t ts) (inr (inl p)) x = then (in_class_t t p x) (below_cases t ts p x)
-  in_class_f (more t ts) (inr (inr p)) x =
-      then (if_app (reach ts p) (app (dn_l t) (only_if (thru_t t) (up_l t))) (class_f ts p) x (BotV t x) (Values (val_f ts) (ClsF ts p) x) (app_if (thru_t t) (dn_l t) (up_l t) x (DnV t x) (UpV t x) (in_dn t x) (in_up t x)) (in_class_f ts p x))
-      (bot_cases t ts (reach ts p) (ClsF ts p) (ClsF (more t ts) (inr (inr p))) x (λ m. (λ h. h, λ h. h)) (λ m. (λ h. h, λ h. h)))
 
 -- ---- the sum
 
@@ -241,16 +210,6 @@ pub pair_of_lem : (l : List Float) → Pair (In l) (pair_of l)
 unfolding pair_of
 pair_of_lem [] = pair_none (In []) (λ x h. h)
 pair_of_lem (y ∷ l) = pair_join (λ x. x ≡ y) (In l) (In (y ∷ l)) (set_of y) (pair_of l) (λ x h. h) (λ x h. inl h) (λ x h. inr h) (pair_one (λ x. x ≡ y) y refl (λ x e. e)) (pair_of_lem l)
-
--- step J's gap is what the plain engine computes
-pub gap_is_plain : (t : Tree Box) → BelowT t → (p : SpotT t) → thru_at_t t p ≡ false → out_at_t t p ≡ false → FitsC (λ x. Values (val_t t) (ClassOf t p) x) → gap_at t p ≡ plain_gap t p
-unfolding plain_gap sum_of
-gap_is_plain t b p e o f =
-    let i = is_class t p b e (not_out_t t p o) in
-    let w = pair_same (In (class_t t p)) (λ x. Values (val_t t) (ClassOf t p) x) (pair_of (class_t t p))
-    (λ x h. let k = (in_class_t t p x).0 h in (k.0, (i k.0).1 k.1, k.2)) (λ x h. (in_class_t t p x).1 (h.0, (i h.0).0 h.1, h.2)) (pair_of_lem (class_t t p)) in
-    sum-once (λ x. Values (val_t t) (ClassOf t p) x) f _ _ (gap_is_sum t b p e o)
-    (record { positive = (pair_of (class_t t p)).positive; negative = (pair_of (class_t t p)).negative; most = w.most; least = w.least; is = refl })
 
 -- ---- is the gap passed out: own start of the parent, and every sibling before it through
 
@@ -272,19 +231,9 @@ and_false : (x : Bool) → false ≡ (x && false)
 and_false true = refl
 and_false false = refl
 
-first_and : (c : Cur) (b s : Bool) (t u : CollapsibleMarginSet) → ((past c b t u).first && s) ≡ ((c.first && s) && b)
+pub first_and : (c : Cur) (b s : Bool) (t u : CollapsibleMarginSet) → ((past c b t u).first && s) ≡ ((c.first && s) && b)
 first_and c true s t u = and_true (c.first && s)
 first_and c false s t u = and_false (c.first && s)
-
-mutual
-  pub out_is_plain : (t : Tree Box) (p : SpotT t) → out_at_t t p ≡ plain_out_t t p
-  out_is_plain (node a ks) p = out_is_plain_f ks a.start begin p
-
-  out_is_plain_f : (ts : Forest Box) (s : Bool) (c : Cur) (p : SpotF ts) → out_at_f ts s c p ≡ plain_out_f ts (c.first && s) p
-  out_is_plain_f none s c p = absurd p
-  out_is_plain_f (more t ts) s c (inl u) = refl
-  out_is_plain_f (more t ts) s c (inr (inl p)) = out_is_plain t p
-  out_is_plain_f (more t ts) s c (inr (inr p)) = out_is_plain_f ts s _ p ∙ ap (λ (z : Bool). plain_out_f ts z p) (first_and c (thru_t t) s (top_set t) (bot_set t))
 
 -- ---- what the plain engine tells of each box below the root, in order, with its node
 

@@ -1,5 +1,5 @@
 -- The theorem of a fresh layout.
-use Rattle.std.specs.Prelude.{◌≡◌, refl, true, false, Float}
+use Rattle.std.specs.Prelude.{◌≡◌, refl, false, Float}
 use Rattle.std.proofs.Common.{sym, subst}
 use Rattle.util.specs.declared.OptionF32.TheVariants.{None}
 use Rattle.tree.specs.Tree.{Tree, Forest, node, none, more, map_t}
@@ -11,11 +11,9 @@ use Rattle.steps.specs.declared.LayoutInput.{LayoutInput}
 use Rattle.steps.proofs.Cells.{pass_cells, cell_in}
 use Rattle.steps.proofs.Zeros.{no_row_lem}
 use Rattle.laws.specs.Trees.{AllT, AllF, all-any-T, all-map-T, all-back-T}
-use Rattle.classes.specs.Margins.{Box, MarT, val_t, Values, Sum}
-use Rattle.classes.specs.Spots.{SpotT, ParentT, box_at_t, ClassOf}
-use Rattle.classes.specs.Collect.{Iff}
+use Rattle.classes.specs.Margins.{Box}
 use Rattle.classes.specs.Real.{UnlaidT, UnlaidF}
-use Rattle.classes.specs.Page.{NoRatioT, NoRatioF, LowT, boxes_of, page_passed, page-gap}
+use Rattle.classes.specs.Page.{NoRatioT, LowT, boxes_of}
 
 -- the page after the width pass
 abbrev pub nodes_of : Tree Site → LayoutInput → Tree Node
@@ -62,31 +60,8 @@ mutual
   unlaid_f none h = tt
   unlaid_f (more t ts) h = (unlaid_t t h.0, unlaid_f ts h.1)
 
-mutual
-  unfolding AllT
-
-  ratio_t : (t : Tree Node) → AllT (λ (n : Node). NoRatio n.site) t → NoRatioT t
-  ratio_t (node l ks) h = (h.0, ratio_f ks h.1)
-
-  ratio_f : (ts : Forest Node) → AllF (λ (n : Node). NoRatio n.site) ts → NoRatioF ts
-  ratio_f none h = tt
-  ratio_f (more t ts) h = (ratio_t t h.0, ratio_f ts h.1)
-
-low : (t : Tree Node) → NoRatioT t → LowT t
+pub low : (t : Tree Node) → NoRatioT t → LowT t
 low (node l ks) h = h.1
 
 pub fresh_unlaid : (t : Tree Site) (q : LayoutInput) → UnlaidT (nodes_of t q)
 fresh_unlaid t q = unlaid_t (nodes_of t q) (unlaid_nodes t q)
-
-pub fresh_low : (t : Tree Site) (q : LayoutInput) → AllT NoRatio t → LowT (nodes_of t q)
-fresh_low t q h = low (nodes_of t q) (ratio_t (nodes_of t q) (all_sites NoRatio t q h))
-
--- For each laid box below the root that is not through, on a page without ratio:
-module _ (t : Tree Site) (q : LayoutInput) (plain : AllT NoRatio t) (p : SpotT (fresh_boxes t q)) (stands : (box_at_t (fresh_boxes t q) p).through ≡ false) where
-  -- J passes its gap out exactly if its top and its parent's top are in one class
-  pub fresh-passed : (m : MarT (fresh_boxes t q)) → ParentT (fresh_boxes t q) p m → Iff ((box_at_t (fresh_boxes t q) p).passed ≡ true) (ClassOf (fresh_boxes t q) p m)
-  fresh-passed = page_passed (nodes_of t q) q (found_of t q) (fresh_unlaid t q) (fresh_low t q plain) p stands
-
-  -- if not, its gap is the largest positive plus the smallest negative of its class
-  pub fresh-gap : (box_at_t (fresh_boxes t q) p).passed ≡ false → Sum (λ x. Values (val_t (fresh_boxes t q)) (ClassOf (fresh_boxes t q) p) x) (box_at_t (fresh_boxes t q) p).gap
-  fresh-gap = page-gap (nodes_of t q) q (found_of t q) (fresh_unlaid t q) (fresh_low t q plain) p stands

@@ -28,9 +28,3 @@ own_start = on (inr (inr (inr (inl (inl Top))))) (inr (inr (inr (inl (inr (inl (
 
 pub next_sibling : ClassOf six fourth (inr (inr (inl (inl Bottom))))
 next_sibling = back (inr (inr (inr (inl (inl Top))))) (inr (inr (inl (inl Bottom)))) self (tt, tt)
-
-pub through_both : ClassOf six fourth (inr (inr (inl (inl Top))))
-through_both = back (inr (inr (inl (inl Bottom)))) (inr (inr (inl (inl Top)))) next_sibling refl
-
-pub own_end : ClassOf six fourth (inr (inl (inr (inl (inl Bottom)))))
-own_end = back (inr (inl (inl Bottom))) (inr (inl (inr (inl (inl Bottom))))) (back (inr (inr (inl (inl Top)))) (inr (inl (inl Bottom))) through_both (tt, tt)) (refl, (tt, tt))

@@ -9,25 +9,18 @@ use Rattle.limits.specs.Bools.{or_left}
 use Rattle.util.specs.declared.OptionF32.TheVariants.{None}
 use Rattle.style.specs.Codes.{length_of, ratio_of}
 use Rattle.style.specs.Style.{plane_of, number_place, number_at, length_at, rect_at, style_at}
-use Rattle.tree.specs.Tree.{Tree, map_t}
+use Rattle.tree.specs.Tree.{Tree}
 use Rattle.steps.specs.Page.{site_at, nodes_in, page_of}
 use Rattle.steps.specs.Noes.{bad_tables, bad_rows, refuse_if, layout_tested}
-use Rattle.steps.specs.Layout.{fresh}
-use Rattle.steps.specs.Results.{layout_result, rows_out, marks_out}
 use Rattle.steps.specs.declared.LayoutInput.{LayoutInput}
-use Rattle.steps.specs.declared.Answer.TheVariants.{Done, Lengths}
+use Rattle.steps.specs.declared.Answer.TheVariants.{Lengths}
 use Rattle.steps.specs.declared.Tested.TheVariants.{Pass}
 use Rattle.tables.proofs.Passing.{sized, then_pass_1, if_pass}
 use Rattle.laws.specs.Trees.{AllT}
 use Rattle.laws.specs.Parsed.{all_parse}
-use Rattle.laws.specs.Answers.{layout_accepted}
-use Rattle.classes.specs.Margins.{Box, MarT, val_t, Values, Sum}
-use Rattle.classes.specs.Spots.{SpotT, ParentT, box_at_t, ClassOf}
-use Rattle.classes.specs.Collect.{Iff}
-use Rattle.classes.specs.Engine.{told_at}
-use Rattle.classes.specs.Fresh.{NoRatio, fresh_boxes, fresh-passed, fresh-gap}
-use Rattle.classes.specs.Computes.{FitL, FitS, did_at, fresh_told}
-use Rattle.classes.specs.Rows.{said_box, laid_t, boxes_are_rows}
+use Rattle.classes.specs.Margins.{Box}
+use Rattle.classes.specs.Fresh.{NoRatio, fresh_boxes}
+use Rattle.classes.specs.Computes.{FitL, FitS}
 
 -- number 22 equals 0 at every node
 abbrev pub NoRatios : List ℕ → List Float → Type 0
@@ -54,7 +47,7 @@ site_style : (ws : List ℕ) (xs : List Float) (es : List ℕ) (i : ℕ) → (si
 unfolding site_at
 site_style ws xs es i = ap (style_at ws i xs) (omega arith)
 
-plain_page : (ws : List ℕ) (xs : List Float) → 0 < nodes_in ws → NoRatios ws xs → AllT NoRatio (page_of ws xs [])
+pub plain_page : (ws : List ℕ) (xs : List Float) → 0 < nodes_in ws → NoRatios ws xs → AllT NoRatio (page_of ws xs [])
 unfolding page_of
 plain_page ws xs p h = all_parse NoRatio (site_at ws xs [] 0) (nodes_in ws) p (λ i l. rw (site_style ws xs [] i) (style_ratio ws xs i (h i l)))
 
@@ -77,42 +70,13 @@ margins_fit : (ws : List ℕ) (xs : List Float) (i : ℕ) → AllFit xs → FitL
 unfolding style_at rect_at length_at
 margins_fit ws xs i h = (length_fits _ _ (number_fits xs h i 6), length_fits _ _ (number_fits xs h i 8))
 
-fit_page : (ws : List ℕ) (xs : List Float) → 0 < nodes_in ws → AllFit xs → AllT FitS (page_of ws xs [])
+pub fit_page : (ws : List ℕ) (xs : List Float) → 0 < nodes_in ws → AllFit xs → AllT FitS (page_of ws xs [])
 unfolding page_of
 fit_page ws xs p h = all_parse FitS (site_at ws xs [] 0) (nodes_in ws) p (λ i l. rw (site_style ws xs [] i) (margins_fit ws xs i h))
 
 -- tables that a layout accepts hold a node
-some_node : (ws : List ℕ) (xs rs : List Float) (ms cw : List ℕ) (cx : List Float) (q : LayoutInput) → layout_tested ws xs rs ms cw cx q ≡ Pass → 0 < nodes_in ws
+pub some_node : (ws : List ℕ) (xs rs : List Float) (ms cw : List ℕ) (cx : List Float) (q : LayoutInput) → layout_tested ws xs rs ms cw cx q ≡ Pass → 0 < nodes_in ws
 unfolding layout_tested
 some_node ws xs rs ms cw cx q e =
     let b = if_pass (bad_tables ws xs || bad_rows ws rs ms) Lengths (then_pass_1 (refuse_if (bad_tables ws xs || bad_rows ws rs ms) Lengths) _ e) in
     (sized ws xs (or_left (bad_tables ws xs) _ b)).some
-
--- ---- the theorem
-module _ (ws : List ℕ) (xs rs : List Float) (ms cw : List ℕ) (cx : List Float) (q : LayoutInput) (k : ℕ) (accepted : (layout_result ws xs rs ms cw cx q).answer ≡ Done k) where
-  some : 0 < nodes_in ws
-  some = some_node ws xs rs ms cw cx q (layout_accepted ws xs rs ms cw cx q k accepted).passed
-
-  -- the boxes are the nodes that the layout laid, with the numbers, heights and through of the rows that it left
-  pub rows-on-tables : map_t said_box (boxes_on ws xs q) ≡ laid_t (page_of ws xs []) (fresh (page_of ws xs []) q).rows
-  rows-on-tables = boxes_are_rows (page_of ws xs []) q
-
-  pub rows_left : (layout_result ws xs rs ms cw cx q).rows ≡ rows_out (fresh (page_of ws xs []) q).rows
-  rows_left = (layout_accepted ws xs rs ms cw cx q k accepted).rows_are
-
-  pub marks-left : (layout_result ws xs rs ms cw cx q).marks ≡ marks_out (fresh (page_of ws xs []) q).rows
-  marks-left = (layout_accepted ws xs rs ms cw cx q k accepted).marks_are
-
-  -- without ratio the plain engine tells of every box below the root what J did with it, bit for bit
-  pub told-on-tables : NoRatios ws xs → AllFit xs → (p : SpotT (boxes_on ws xs q)) → did_at (boxes_on ws xs q) p ≡ told_at (boxes_on ws xs q) p
-  told-on-tables r h = fresh_told (page_of ws xs []) q (plain_page ws xs some r) (fit_page ws xs some h)
-
-  -- without ratio, for each laid box below the root that is not through:
-  module _ (plain : NoRatios ws xs) (p : SpotT (boxes_on ws xs q)) (stands : (box_at_t (boxes_on ws xs q) p).through ≡ false) where
-    -- its gap is passed out of the top exactly if its top margin and its parent's are in one class
-    pub passed-on-tables : (m : MarT (boxes_on ws xs q)) → ParentT (boxes_on ws xs q) p m → Iff ((box_at_t (boxes_on ws xs q) p).passed ≡ true) (ClassOf (boxes_on ws xs q) p m)
-    passed-on-tables = fresh-passed (page_of ws xs []) q (plain_page ws xs some plain) p stands
-
-    -- if not, the gap is the largest positive plus the smallest negative of its class
-    pub gap-on-tables : (box_at_t (boxes_on ws xs q) p).passed ≡ false → Sum (λ x. Values (val_t (boxes_on ws xs q)) (ClassOf (boxes_on ws xs q) p) x) (box_at_t (boxes_on ws xs q) p).gap
-    gap-on-tables = fresh-gap (page_of ws xs []) q (plain_page ws xs some plain) p stands

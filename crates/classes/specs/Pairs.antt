@@ -94,7 +94,7 @@ past_top Q U D s top false false t u p q r = pair_same Q _ _ (λ x h. inl h) her
 
 -- ---- the stack, from any cursor
 
-abbrev AfterS : (ts : Forest Box) → (Float → Type 0) → Float → Type 0
+abbrev pub AfterS : (ts : Forest Box) → (Float → Type 0) → Float → Type 0
 AfterS ts P x = ((all_thru ts ≡ true) × P x) ⊎ RightV ts x
 
 abbrev pub NextS : Tree Box → (Float → Type 0) → Float → Type 0
@@ -140,7 +140,7 @@ after_t t c = past c (thru_t t) (top_set t) (bot_set t)
 abbrev NextT : Tree Box → Bool → (Float → Type 0) → Float → Type 0
 NextT t f Q x = Q x ⊎ ((f ≡ true) × (UpV t x ⊎ ((thru_t t ≡ true) × DnV t x)))
 
-abbrev AfterT : (ts : Forest Box) → Bool → (Float → Type 0) → Float → Type 0
+abbrev pub AfterT : (ts : Forest Box) → Bool → (Float → Type 0) → Float → Type 0
 AfterT ts f Q x = Q x ⊎ ((f ≡ true) × LeftV ts x)
 
 past_top_first : (c : Cur) (b : Bool) (t u : CollapsibleMarginSet) → (past c b t u).first ≡ (b && c.first)
@@ -216,7 +216,7 @@ own_pair W R false s m w own f g = pair_same (λ x. (x ≡ m) ⊎ (x ≡ m)) _ _
 abbrev Nothing : Float → Type 0
 Nothing x = ⊥
 
-up_fine : (a : Box) (ks : Forest Box) → FineF ks → Pair (UpV (node a ks)) (top_set (node a ks))
+pub up_fine : (a : Box) (ks : Forest Box) → FineF ks → Pair (UpV (node a ks)) (top_set (node a ks))
 unfolding top_set
 up_fine a ks g =
     own_pair (AfterT ks true Nothing) (UpV (node a ks)) a.start (stack ks begin).top a.above (stack_top ks begin Nothing g (pair_none Nothing (λ x h. h)))
@@ -234,7 +234,7 @@ up_fine a ks g =
         go (inl Bottom) u v = absurd u
         go (inr m) u v = inr (u.0, inr (refl, (m, u.1, v)))
 
-dn_fine : (a : Box) (ks : Forest Box) → FineF ks → Pair (DnV (node a ks)) (bot_set (node a ks))
+pub dn_fine : (a : Box) (ks : Forest Box) → FineF ks → Pair (DnV (node a ks)) (bot_set (node a ks))
 unfolding bot_set
 dn_fine a ks g =
     own_pair (AfterS ks Nothing) (DnV (node a ks)) a.end (stack ks begin).strut a.under (stack_strut ks begin Nothing g (pair_none Nothing (λ x h. h)))
@@ -251,11 +251,3 @@ dn_fine a ks g =
         go (inl Top) u v = absurd u
         go (inl Bottom) u v = inl (sym v)
         go (inr m) u v = inr (u.0, inr (m, u.1, v))
-
-mutual
-  pub fine_t : (t : Tree Box) → Fine t
-  fine_t (node a ks) = (up_fine a ks (fine_f ks), dn_fine a ks (fine_f ks))
-
-  pub fine_f : (ts : Forest Box) → FineF ts
-  fine_f none = tt
-  fine_f (more t ts) = (fine_t t, fine_f ts)

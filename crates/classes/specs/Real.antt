@@ -27,7 +27,7 @@ use Rattle.steps.specs.declared.LayoutOutput.{LayoutOutput}
 use Rattle.steps.specs.declared.BlockItem.{BlockItem}
 use Rattle.steps.specs.declared.Frame.{Frame}
 use Rattle.steps.specs.declared.Cursor.{Cursor}
-use Rattle.steps.proofs.Clauses.{by_test, by_flow, frame_at, style_t, lay_f_none, lay_f_gone, lay_f_out, lay_f_in, ask_t_new, leaf_out, block_out, stack_of}
+use Rattle.steps.proofs.Clauses.{by_test, by_flow, frame_at, style_t, lay_f_gone, lay_f_out, lay_f_in, ask_t_new, block_out, stack_of}
 use Rattle.steps.proofs.Zeros.{unlaid_kept}
 use Rattle.classes.specs.Margins.{Box}
 use Rattle.classes.specs.Spots.{box_on}
@@ -159,7 +159,7 @@ end_in t ts f c u e = rw (lay_f_in t ts f c e, ask_new t (question_to f (style_t
 abbrev pub cut : Cursor → Cur
 cut c = record { strut = c.strut; top = c.top; first = c.first }
 
-cut_start : (f : Frame) → cut (start_of f) ≡ begin
+pub cut_start : (f : Frame) → cut (start_of f) ≡ begin
 unfolding start_of
 cut_start f = refl
 
@@ -197,11 +197,11 @@ twice : (m : Float) → joined_with no_margins m ≡ joined_with (set_of m) m
 unfolding joined_with joined larger smaller
 twice m = none_joined (set_of m) (set_made m) ∙ sym (rw (alike (lt (set_of m).positive (set_of m).positive) (set_of m).positive, alike (lt (set_of m).negative (set_of m).negative) (set_of m).negative))
 
-same_leaf : (l : Node) (q : LayoutInput) (gap : Float) (p : Bool) → Same (leaf_output l.site.style.measure q) l.site.style q (node (leaf_box l q gap p) none)
+pub same_leaf : (l : Node) (q : LayoutInput) (gap : Float) (p : Bool) → Same (leaf_output l.site.style.measure q) l.site.style q (node (leaf_box l q gap p) none)
 unfolding leaf_output top_set
 same_leaf l q gap p = record { top = twice _; bottom = twice _; through = refl }
 
-same_block : (l : Node) (ks : Forest Node) (q : LayoutInput) (found gap : Float) (p : Bool) (us : Forest Box) → is_leaf l.site.style.kind ≡ false → cut (stack_of l ks q found).last ≡ stack us begin
+pub same_block : (l : Node) (ks : Forest Node) (q : LayoutInput) (found gap : Float) (p : Bool) (us : Forest Box) → is_leaf l.site.style.kind ≡ false → cut (stack_of l ks q found).last ≡ stack us begin
     → Same (lay_t (node l ks) q found).out l.site.style q (node (block_box l ks q found gap p) us)
 unfolding top_set finished output_of passed_out
 same_block l ks q found gap p us e h =
@@ -216,15 +216,6 @@ same_block l ks q found gap p us e h =
           ∙ sym (ap (λ (z : LayoutOutput). joined_with (cond (still_own_end f z.size.height) (stack us begin).strut (set_of (own_under s q))) (own_under s q)) o);
       through = refl;
     }
-
-same_node : (l : Node) (ks : Forest Node) (q : LayoutInput) (found gap : Float) (p : Bool) → (cut (stack_of l ks q found).last ≡ stack (box_f ks (frame_at l q found) (start_of (frame_at l q found))) begin)
-    → Same (lay_t (node l ks) q found).out (style_t (node l ks)) q (box_t (node l ks) q found gap p)
-unfolding root_t
-same_node l ks q found gap p h = go (is_leaf l.site.style.kind) refl
-  where
-    go : (b : Bool) → is_leaf l.site.style.kind ≡ b → Same (lay_t (node l ks) q found).out l.site.style q (box_t (node l ks) q found gap p)
-    go true e = rw (box_t_at l ks q found gap p true e, leaf_out l ks q found e) (same_leaf l q gap p)
-    go false e = rw (box_t_at l ks q found gap p false e) (same_block l ks q found gap p _ e h)
 
 -- what step J takes of a child
 child_top : (t : Tree Node) (f : Frame) (o : LayoutOutput) → top_margins (item_of f (style_t t)) o ≡ joined_with o.top (own_above (style_t t) (question_to f (style_t t)))
@@ -256,11 +247,11 @@ pub stack_more : (u : Tree Box) (us : Forest Box) (c : Cur) → stack (more u us
 unfolding stack
 stack_more u us c = refl
 
-stack_none : (c : Cur) → stack none c ≡ c
+pub stack_none : (c : Cur) → stack none c ≡ c
 unfolding stack
 stack_none c = refl
 
-stack_step : (t : Tree Node) (ts : Forest Node) → UnlaidT t → SameT t → StackF ts → StackF (more t ts)
+pub stack_step : (t : Tree Node) (ts : Forest Node) → UnlaidT t → SameT t → StackF ts → StackF (more t ts)
 stack_step t ts u s r f c = go (flow_of (style_t t)) refl
   where
     go : (w : Flow) → flow_of (style_t t) ≡ w → cut (lay_f (more t ts) f c).last ≡ stack (box_f (more t ts) f c) (cut c)
@@ -269,14 +260,6 @@ stack_step t ts u s r f c = go (flow_of (style_t t)) refl
     go In e =
         ap cut (end_in t ts f c u e) ∙ r f (next_c t f c) ∙ ap (stack (box_f ts f (next_c t f c))) (next_cut t f c s)
         ∙ sym (stack_more (this_box t f c) (box_f ts f (next_c t f c)) (cut c)) ∙ sym (ap (λ (z : Forest Box). stack z (cut c)) (box_f_at t ts f c In e))
-
-mutual
-  pub same_t : (t : Tree Node) → UnlaidT t → SameT t
-  same_t (node l ks) u = λ q found gap p. same_node l ks q found gap p (stack_f ks u.1 (frame_at l q found) (start_of (frame_at l q found)) ∙ ap (stack (box_f ks (frame_at l q found) (start_of (frame_at l q found)))) (cut_start (frame_at l q found)))
-
-  pub stack_f : (ts : Forest Node) → UnlaidF ts → StackF ts
-  stack_f none u = λ f c. ap (λ z. cut z.last) (lay_f_none f c) ∙ sym (ap (λ (z : Forest Box). stack z (cut c)) (box_f_none f c) ∙ stack_none (cut c))
-  stack_f (more t ts) u = stack_step t ts u.0 (same_t t u.0) (stack_f ts u.1)
 
 -- ---- each box notes its gap
 
@@ -301,7 +284,7 @@ NoteT t = (q : LayoutInput) (found gap : Float) (p : Bool) → NotedT (box_t t q
 abbrev pub NoteF : Forest Node → Type 0
 NoteF ts = (f : Frame) (c : Cursor) → NotedF (box_f ts f c) f.ownStart (cut c)
 
-note_node : (l : Node) (ks : Forest Node) → NoteF ks → NoteT (node l ks)
+pub note_node : (l : Node) (ks : Forest Node) → NoteF ks → NoteT (node l ks)
 note_node l ks h q found gap p = go (is_leaf l.site.style.kind) refl
   where
     go : (b : Bool) → is_leaf l.site.style.kind ≡ b → NotedT (box_t (node l ks) q found gap p)
@@ -310,7 +293,7 @@ note_node l ks h q found gap p = go (is_leaf l.site.style.kind) refl
         subst NotedT (sym (box_t_at l ks q found gap p false e))
         (subst (λ (z : Cur). NotedF (box_f ks (frame_at l q found) (start_of (frame_at l q found))) (frame_at l q found).ownStart z) (cut_start (frame_at l q found)) (h (frame_at l q found) (start_of (frame_at l q found))))
 
-note_more : (t : Tree Node) (ts : Forest Node) → SameT t → NoteT t → NoteF ts → NoteF (more t ts)
+pub note_more : (t : Tree Node) (ts : Forest Node) → SameT t → NoteT t → NoteF ts → NoteF (more t ts)
 note_more t ts s n r f c = go (flow_of (style_t t)) refl
   where
     on-cut : (us vs : Forest Box) (c d : Cur) → us ≡ vs → d ≡ c → NotedF vs f.ownStart d → NotedF us f.ownStart c
@@ -330,11 +313,3 @@ note_more t ts s n r f c = go (flow_of (style_t t)) refl
           n q zero_f g (at_top f c),
           subst (λ (z : Cur). NotedF (box_f ts f (next_c t f c)) f.ownStart z) (next_cut t f c s) (r f (next_c t f c)),
         )
-
-mutual
-  pub note_t : (t : Tree Node) → UnlaidT t → NoteT t
-  note_t (node l ks) u = note_node l ks (note_f ks u.1)
-
-  pub note_f : (ts : Forest Node) → UnlaidF ts → NoteF ts
-  note_f none u = λ f c. subst (λ (z : Forest Box). NotedF z f.ownStart (cut c)) (sym (box_f_none f c)) tt
-  note_f (more t ts) u = note_more t ts (same_t t u.0) (note_t t u.0) (note_f ts u.1)

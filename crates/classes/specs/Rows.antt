@@ -6,32 +6,30 @@ use Rattle.geometry.specs.declared.Point.{Point}
 use Rattle.util.specs.declared.OptionF32.{OptionF32}
 use Rattle.util.specs.declared.OptionF32.TheVariants.{None, Some}
 use Rattle.style.specs.Codes.{flag_at}
-use Rattle.style.specs.Flow.{is_leaf, flow_of}
+use Rattle.style.specs.Flow.{flow_of}
 use Rattle.style.specs.declared.Style.{Style}
 use Rattle.style.specs.declared.Flow.{Flow}
 use Rattle.style.specs.declared.Flow.TheVariants.{Gone, Out, In}
 use Rattle.tree.specs.Tree.{Tree, Forest, node, none, more, map_t, map_f, root_t, on_root}
-use Rattle.tree.proofs.Laws.{map_map_t, map_id_t, map_t_node, map_f_none, map_f_more}
+use Rattle.tree.proofs.Laws.{map_map_t, map_id_t, map_f_more}
 use Rattle.steps.specs.Row.{Row, ProbeWords, is_laid, no_row, hidden_row, aside_row, laid_row, output_in, put_at, lowered, origin}
 use Rattle.steps.specs.Page.{Site, Cell, Node, blank}
-use Rattle.steps.specs.Stack.{start_of, question_to, item_of, stepped, place_of, line_of, edges_of, past_aside, past_hidden}
+use Rattle.steps.specs.Stack.{question_to, item_of, stepped, place_of, line_of, edges_of, past_aside, past_hidden}
 use Rattle.steps.specs.Through.{leaf_output}
 use Rattle.steps.specs.Kept.{Laid, zeros_t, zeros_f}
-use Rattle.steps.specs.Layout.{Stacked, lay_t, lay_f, lower_f, align_f, skip, aside, place, fresh}
+use Rattle.steps.specs.Layout.{Stacked, lay_t, lay_f, lower_f, align_f, skip, aside, place}
 use Rattle.steps.specs.declared.LayoutInput.{LayoutInput}
 use Rattle.steps.specs.declared.LayoutOutput.{LayoutOutput}
 use Rattle.steps.specs.declared.Frame.{Frame}
 use Rattle.steps.specs.declared.Cursor.{Cursor}
-use Rattle.steps.proofs.Clauses.{frame_at, style_t, stack_of, shift_of, leaf_rows, block_rows, leaf_out, lay_f_gone, lay_f_out, lay_f_in}
+use Rattle.steps.proofs.Clauses.{style_t, lay_f_gone, lay_f_out, lay_f_in}
 use Rattle.steps.proofs.Cells.{pass_cells, cell_in}
 use Rattle.steps.proofs.Zeros.{no_row_lem}
-use Rattle.laws.specs.Trees.{AllT, AllF}
 use Rattle.laws.specs.Bits.{out_row, hidden_row_lem, aside_row_lem}
 use Rattle.laws.specs.Along.{root_laid}
-use Rattle.laws.specs.Small.{Small, pass_small}
 use Rattle.classes.specs.Margins.{Box}
-use Rattle.classes.specs.Real.{box_t, box_f, box_t_at, box_f_at, box_f_none, leaf_box, block_box, next_c, this_box, UnlaidT, UnlaidF, ask_new}
-use Rattle.classes.specs.Fresh.{nodes_of, found_of, fresh_boxes, fresh_is, fresh_unlaid}
+use Rattle.classes.specs.Real.{box_t, box_f, box_f_at, leaf_box, next_c, this_box, UnlaidT, ask_new}
+use Rattle.classes.specs.Fresh.{nodes_of}
 
 -- what a box and a row both say of a node
 pub record Said : Type 0 where
@@ -86,7 +84,7 @@ lower_f_lem d none us = refl
 lower_f_lem d (more t ts) none = refl
 lower_f_lem d (more t ts) (more u us) = rw (on_root_lem (lowered d) (lower_alike d) u, on_t (lowered d) (lower_alike d) t u, lower_f_lem d ts us)
 
-align_f_lem : (d : OptionF32) (ks : Forest Site) (us : Forest Row) → laid_f ks (align_f d us) ≡ laid_f ks us
+pub align_f_lem : (d : OptionF32) (ks : Forest Site) (us : Forest Row) → laid_f ks (align_f d us) ≡ laid_f ks us
 unfolding align_f
 align_f_lem None ks us = refl
 align_f_lem (Some d) ks us = lower_f_lem d ks us
@@ -96,7 +94,7 @@ zero_root : (t : Tree Node) → is_laid (root_t (map_t (λ (_ : Node). no_row) t
 unfolding map_t root_t
 zero_root (node l ks) = no_row_lem
 
-abbrev site_n : Node → Site
+abbrev pub site_n : Node → Site
 site_n n = n.site
 
 zeros_f_lem : (ts : Forest Node) → laid_f (map_f site_n ts) (map_f (λ (_ : Node). no_row) ts) ≡ none
@@ -104,7 +102,7 @@ unfolding map_f
 zeros_f_lem none = refl
 zeros_f_lem (more t ts) = rw (zero_root t) (zeros_f_lem ts)
 
-zeros_below : (ts : Forest Node) → laid_f (map_f site_n ts) (zeros_f ts) ≡ none
+pub zeros_below : (ts : Forest Node) → laid_f (map_f site_n ts) (zeros_f ts) ≡ none
 unfolding zeros_f
 zeros_below ts = zeros_f_lem ts
 
@@ -121,45 +119,24 @@ height_of : (q : LayoutInput) (o : LayoutOutput) (w : ProbeWords) → (laid_row 
 unfolding laid_row
 height_of q o w = refl
 
-abbrev said_out : Site → LayoutOutput → Said
+abbrev pub said_out : Site → LayoutOutput → Said
 said_out s o = record { node = s.node; height = o.size.height; through = o.through }
 
-own_row : (s : Site) (q : LayoutInput) (o : LayoutOutput) (w : ProbeWords) → w.code < 16 → said_out s o ≡ said_row s (laid_row q o w)
+pub own_row : (s : Site) (q : LayoutInput) (o : LayoutOutput) (w : ProbeWords) → w.code < 16 → said_out s o ≡ said_row s (laid_row q o w)
 own_row s q o w h =
     ap (λ (b : Bool). record { node = s.node; height = o.size.height; through = b }) (sym (bit_of q o w h))
     ∙ ap (λ (x : Float). record { node = s.node; height = x; through = flag_at (laid_row q o w).bits 1 }) (sym (height_of q o w))
 
-leaf_said : (l : Node) (q : LayoutInput) (gap : Float) (p : Bool) → said_box (leaf_box l q gap p) ≡ said_out l.site (leaf_output l.site.style.measure q)
+pub leaf_said : (l : Node) (q : LayoutInput) (gap : Float) (p : Bool) → said_box (leaf_box l q gap p) ≡ said_out l.site (leaf_output l.site.style.measure q)
 unfolding leaf_output
 leaf_said l q gap p = refl
 
 -- ---- node by node
-abbrev SaysT : Tree Node → Type 0
+abbrev pub SaysT : Tree Node → Type 0
 SaysT t = (q : LayoutInput) (found gap : Float) (p : Bool) → map_t said_box (box_t t q found gap p) ≡ laid_t (map_t site_n t) (lay_t t q found).rows
 
-abbrev SaysF : Forest Node → Type 0
+abbrev pub SaysF : Forest Node → Type 0
 SaysF ts = (f : Frame) (c : Cursor) → map_f said_box (box_f ts f c) ≡ laid_f (map_f site_n ts) (lay_f ts f c).rows
-
-says_node : (l : Node) (ks : Forest Node) → Small l → SaysF ks → SaysT (node l ks)
-says_node l ks v h q found gap p = go (is_leaf l.site.style.kind) refl
-  where
-    o : LayoutOutput
-    o = (lay_t (node l ks) q found).out
-
-    at : (us : Forest Box) (a : Box) (rs : Forest Row) → said_box a ≡ said_row l.site (laid_row q o l.probe) → map_f said_box us ≡ laid_f (map_f site_n ks) rs
-        → map_t said_box (node a us) ≡ laid_t (map_t site_n (node l ks)) (node (laid_row q o l.probe) rs)
-    at us a rs e d = rw (map_t_node said_box a us, map_t_node site_n l ks, e, d)
-
-    go : (b : Bool) → is_leaf l.site.style.kind ≡ b → map_t said_box (box_t (node l ks) q found gap p) ≡ laid_t (map_t site_n (node l ks)) (lay_t (node l ks) q found).rows
-    go true e =
-        ap (map_t said_box) (box_t_at l ks q found gap p true e)
-        ∙ at none (leaf_box l q gap p) (zeros_f ks) (leaf_said l q gap p ∙ ap (said_out l.site) (sym (leaf_out l ks q found e)) ∙ own_row l.site q o l.probe v) (map_f_none said_box ∙ sym (zeros_below ks))
-        ∙ ap (laid_t (map_t site_n (node l ks))) (sym (leaf_rows l ks q found e))
-    go false e =
-        let f = frame_at l q found in
-        ap (map_t said_box) (box_t_at l ks q found gap p false e)
-        ∙ at (box_f ks f (start_of f)) (block_box l ks q found gap p) _ (own_row l.site q o l.probe v) (h f (start_of f) ∙ sym (align_f_lem (shift_of l q found (stack_of l ks q found).last) (map_f site_n ks) (stack_of l ks q found).rows))
-        ∙ ap (laid_t (map_t site_n (node l ks))) (sym (block_rows l ks q found e))
 
 skip_rows : (c : Cursor) (t : Tree Node) (ts : Forest Site) (g : Cursor → Stacked) → laid_f (more (map_t site_n t) ts) (skip c t g).rows ≡ laid_f ts (g (past_hidden c)).rows
 unfolding skip
@@ -176,7 +153,7 @@ place_rows f c s a t ts g e =
     let p = put_at (place_of f c (item_of f s) a.out) c.shown.0 in
     rw (on_root_lem p (put_alike _ _) a.rows, e, on_t p (put_alike _ _) t a.rows)
 
-says_more : (t : Tree Node) (ts : Forest Node) → UnlaidT t → SaysT t → SaysF ts → SaysF (more t ts)
+pub says_more : (t : Tree Node) (ts : Forest Node) → UnlaidT t → SaysT t → SaysF ts → SaysF (more t ts)
 says_more t ts u h r f c = go (flow_of (style_t t)) refl
   where
     go : (w : Flow) → flow_of (style_t t) ≡ w → map_f said_box (box_f (more t ts) f c) ≡ laid_f (map_f site_n (more t ts)) (lay_f (more t ts) f c).rows
@@ -192,24 +169,7 @@ says_more t ts u h r f c = go (flow_of (style_t t)) refl
         ∙ sym (ap (λ (z : Stacked). laid_f (more (map_t site_n t) (map_f site_n ts)) z.rows) (lay_f_in t ts f c e ∙ ap (λ (a : Laid). place f c (style_t t) a (lay_f ts f)) (ask_new t q u)))
         ∙ ap (λ (k : Forest Site). laid_f k (lay_f (more t ts) f c).rows) (sym (map_f_more site_n t ts))
 
-mutual
-  unfolding AllT
-
-  says_t : (t : Tree Node) → UnlaidT t → AllT Small t → SaysT t
-  says_t (node l ks) u v = says_node l ks v.0 (says_f ks u.1 v.1)
-
-  says_f : (ts : Forest Node) → UnlaidF ts → AllF Small ts → SaysF ts
-  says_f none u v = λ f c. ap (map_f said_box) (box_f_none f c) ∙ map_f_none said_box ∙ ap (λ (k : Forest Site). laid_f k (lay_f none f c).rows) (sym (map_f_none site_n))
-  says_f (more t ts) u v = says_more t ts u.0 (says_t t u.0 v.0) (says_f ts u.1 v.1)
-
-sites_are : (t : Tree Site) (q : LayoutInput) → map_t site_n (nodes_of t q) ≡ t
+pub sites_are : (t : Tree Site) (q : LayoutInput) → map_t site_n (nodes_of t q) ≡ t
 unfolding blank
 sites_are t q =
     sym (map_map_t (λ (c : Cell). c.site) cell_in (nodes_of t q)) ∙ ap (map_t (λ (c : Cell). c.site)) (pass_cells (map_t blank t) q) ∙ map_map_t (λ (c : Cell). c.site) blank t ∙ map_id_t t
-
--- The boxes are the laid nodes, in their order: each has its node's number, and the height and through of its row.
-pub boxes_are_rows : (t : Tree Site) (q : LayoutInput) → map_t said_box (fresh_boxes t q) ≡ laid_t t (fresh t q).rows
-boxes_are_rows t q =
-    says_t (nodes_of t q) (fresh_unlaid t q) (pass_small (map_t blank t) q) q (found_of t q) zero_f false
-    ∙ ap (λ (u : Tree Site). laid_t u (lay_t (nodes_of t q) q (found_of t q)).rows) (sites_are t q)
-    ∙ ap (λ (z : Laid). laid_t t z.rows) (sym (fresh_is t q))

@@ -1,6 +1,6 @@
 -- Worked: the gap of a class of six margins; and a page with a ratio, where the gap is not the sum of the class.
 use Rattle.std.specs.Prelude.{◌≡◌, refl, ◌⊎◌, Bool, true, false, List, [], ◌∷◌, map, ℕ, set, replicate, Float}
-use Rattle.std.proofs.Common.{sym, ap, ◌∙◌, inl, inr, true≢false}
+use Rattle.std.proofs.Common.{inl, inr}
 use Rattle.std.specs.Float.Ieee.{lt, add, of_bits, to_bits}
 use Rattle.std.specs.Float.{binary32}
 use Rattle.geometry.specs.Geometry.{zero_f}
@@ -13,8 +13,8 @@ use Rattle.margin.specs.Margin.{no_margins, set_of, joined, joined_with, sum_of}
 use Rattle.steps.specs.Question.{root_input}
 use Rattle.steps.specs.declared.Question.{Question}
 use Rattle.steps.proofs.Computed.{steps}
-use Rattle.classes.specs.Margins.{Box, Top, Bottom, MarT, self, back, val_t, Values, Sum}
-use Rattle.classes.specs.Spots.{SpotT, box_at_t, ClassOf}
+use Rattle.classes.specs.Margins.{Box, Top, Bottom, MarT, self, back, val_t, Values}
+use Rattle.classes.specs.Spots.{SpotT, ClassOf}
 use Rattle.classes.specs.Links.{six, fourth}
 use Rattle.classes.specs.Stacking.{top_set, gap_at}
 use Rattle.classes.specs.Engine.{plain_gap, pair_of}
@@ -42,7 +42,7 @@ unfoldable pub bridge_question : Question
 bridge_question =
     record { known = record { width = Some (bits 0x42c8_0000); height = None }; parent = bits 0x42c8_0000; definiteHeight = false; available = MaxContent; collapseStart = false; collapseEnd = false }
 
-abbrev ten : Float
+abbrev pub ten : Float
 ten = bits 0x4120_0000
 
 abbrev low : ℕ → Float → Float → Bool → Bool → Bool → Float → Box
@@ -73,7 +73,7 @@ one_class =
     (refl, tt)
 
 -- so its largest is 10; but J gave box 3 the gap 0
-values : (m : MarT bridge) → (val_t bridge m ≡ zero_f) ⊎ (val_t bridge m ≡ ten)
+pub values : (m : MarT bridge) → (val_t bridge m ≡ zero_f) ⊎ (val_t bridge m ≡ ten)
 values (inl Top) = inl refl
 values (inl Bottom) = inl refl
 values (inr (inl (inl Top))) = inr refl
@@ -87,32 +87,5 @@ values (inr (inl (inr (inr x)))) = elim x [ ]
 values (inr (inr (inl (inr x)))) = elim x [ ]
 values (inr (inr (inr x))) = elim x [ ]
 
-abbrev ClassValues : Float → Type 0
+abbrev pub ClassValues : Float → Type 0
 ClassValues x = Values (val_t bridge) (ClassOf bridge third) x
-
-below_none : (x : Float) → lt x zero_f ≡ true → ClassValues x → ⊥
-unfolding lt of_bits
-below_none x e h = go (values h.0)
-  where
-    go : (val_t bridge h.0 ≡ zero_f) ⊎ (val_t bridge h.0 ≡ ten) → ⊥
-    go (inl d) = true≢false (sym e ∙ ap (λ (z : Float). lt z zero_f) (sym h.2 ∙ d))
-    go (inr d) = true≢false (sym e ∙ ap (λ (z : Float). lt z zero_f) (sym h.2 ∙ d))
-
-above_ten : (x : Float) → lt zero_f x ≡ true → ClassValues x → x ≡ ten
-unfolding lt of_bits
-above_ten x e h = go (values h.0)
-  where
-    go : (val_t bridge h.0 ≡ zero_f) ⊎ (val_t bridge h.0 ≡ ten) → x ≡ ten
-    go (inl d) = absurd (true≢false (sym e ∙ ap (lt zero_f) (sym h.2 ∙ d)))
-    go (inr d) = sym h.2 ∙ d
-
-pub bridge_fails : Sum ClassValues (box_at_t bridge third).gap → ⊥
-unfolding lt add of_bits to_bits
-bridge_fails s = go s.most.one s.least.one
-  where
-    go : (s.positive ≡ zero_f) ⊎ ((lt zero_f s.positive ≡ true) × ClassValues s.positive) → (s.negative ≡ zero_f) ⊎ ((lt s.negative zero_f ≡ true) × ClassValues s.negative) → ⊥
-    go (inl e) n = true≢false (ap (λ (z : Float). lt z ten) (sym e) ∙ s.most.none_above ten (inr (inl (inl Top)), one_class, refl))
-    go (inr e) (inr n) = below_none s.negative n.0 n.1
-    go (inr e) (inl n) =
-        let d : zero_f ≡ add binary32 ten zero_f = s.is ∙ ap (λ (z : Float). add binary32 z s.negative) (above_ten s.positive e.0 e.1) ∙ ap (λ (z : Float). add binary32 ten z) n in
-        true≢false (ap (λ (z : Float). lt z ten) d)

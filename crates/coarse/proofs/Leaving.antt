@@ -23,9 +23,10 @@ use Rattle.limits.specs.Laws.{small_finite}
 use Rattle.steps.specs.Page.{nodes_in}
 use Rattle.edges.specs.Edges.{row_number, edge_at}
 use Rattle.pixel.specs.Pixel.{scaled, whole_pixel, Near}
-use Rattle.pixel.specs.Laws.{equal_alike, monotone, size_not_negative}
-use Rattle.pixel.specs.Laws as pixel
-use Rattle.pixel.specs.Sizes.{size_kept}
+use Rattle.pixel.specs.Laws.{equal_alike}
+use Rattle.pixel.proofs.Laws.{monotone, size_not_negative}
+use Rattle.pixel.proofs.Laws as pixel
+use Rattle.pixel.proofs.Sizes.{size_kept}
 use Rattle.coarse.specs.Panel.{laid_at, span_of, too_far, far_node, on_pixels, boxes_of}
 use Rattle.coarse.specs.Coarse.{Panel, box_at, coarse_answer, by_answer, coarse_result, Coarsened}
 use Rattle.coarse.specs.Sides.{Axis, across, down, Side, near, far, axis_no, edge_on, size_on, pixel_on}

@@ -5,7 +5,8 @@ use mathlib.Core.List.{List}
 use Prim.Native.Nat.{ℕ}
 use native.Mathlib.Omega.{arith}
 use lib.Ieee.{Float}
-use Rattle.answers.specs.Settled.{paper_settles, zero_is_done, from_nine}
+use Rattle.answers.specs.Settled.{paper_settles, from_nine}
+use Rattle.answers.proofs.Settled.{zero_is_done}
 use Rattle.edges.specs.Tests.{LaidRefused}
 use Rattle.coarse.specs.Coarse.{coarse_paper}
 use Rattle.coarse.specs.Due.{CoarseDue}

@@ -9,24 +9,18 @@ use Rattle.util.specs.Maybe.{or_else, clamp_opt, ratio_fills, add_size}
 use Rattle.util.specs.declared.OptionF32.{OptionF32}
 use Rattle.util.specs.declared.OptionF32.TheVariants.{None, Some}
 use Rattle.util.specs.declared.OptionSize.{OptionSize}
-use Rattle.length.specs.Length.{resolved, resolved_or_zero, resolved_rect, resolved_size}
-use Rattle.length.specs.declared.Length.{Length}
-use Rattle.length.specs.declared.Length.TheVariants.{Auto, Pixels, Fraction}
-use Rattle.length.specs.declared.LengthRect.{LengthRect}
-use Rattle.length.specs.declared.LengthSize.{LengthSize}
 use Rattle.style.specs.declared.Overflow.{Overflow}
 use Rattle.style.specs.declared.Overflow.TheVariants.{Visible, Clip, Hidden, Scroll}
 use Rattle.style.specs.declared.Style.{Style}
-use Rattle.steps.specs.Sizing.{box_size, sized_by, sizing_of, decided, known_axis, step_b, filled, step_d, known_of, bar_of, gutter, insets}
+use Rattle.steps.specs.Sizing.{decided, known_axis, step_b, filled, step_d, known_of, bar_of, gutter}
 use Rattle.steps.specs.declared.Sizing.{Sizing}
 use Rattle.whole.specs.Test.{pixel, number}
 use Rattle.whole.specs.Range.{within_le, pixel_within, zero_is}
-use Rattle.integers.specs.Numbers.{MayZ, NoneZ, SomeZ, SizeMay, RectZ, or_zero_z, across_z, down_z, plus_z, sides_z}
-use Rattle.integers.specs.Boxes.{BoxZ, box_size_z, box_both_z, box_of_z, decided_z, known_axis_z, known_z, bar_of_z, gutter_z, insets_z}
-use Rattle.profile.specs.Profile.{whole_length, whole_option}
-use Rattle.profile.specs.Page.{WholeSize, WholeRect, InProfile}
-use Rattle.exact.specs.Near.{Near, wide, plus_is, MayIs, none_is, some_is, wide_may, or_else_is, or_zero_is, add_opt_is, clamp_opt_is, floor_opt_is}
-use Rattle.exact.specs.Read.{length_z, option_z, size_z, rect_z, style_z}
+use Rattle.integers.specs.Numbers.{MayZ, NoneZ, SomeZ, SizeMay, RectZ, across_z, down_z, plus_z}
+use Rattle.integers.specs.Boxes.{BoxZ, box_size_z, box_both_z, box_of_z, decided_z, known_axis_z, known_z, bar_of_z, gutter_z}
+use Rattle.profile.specs.Page.{InProfile}
+use Rattle.exact.specs.Near.{Near, wide, plus_is, MayIs, none_is, some_is, wide_may, or_else_is, add_opt_is, clamp_opt_is, floor_opt_is}
+use Rattle.exact.specs.Read.{style_z}
 
 pub no : {A : Type 0} → false ≡ true → A
 no e = absurd (subst T (sym e) tt)
@@ -34,20 +28,6 @@ no e = absurd (subst T (sym e) tt)
 -- ---- numbers of the page
 pub pixel_is : (x : Float) → pixel x ≡ true → Near x (number x) 1024
 pixel_is x e = pixel_within x (subst T (sym e) tt)
-
-pub length_is : (l : Length) (b : OptionF32) → whole_length l ≡ true → MayIs 1024 (resolved l b) (length_z l)
-unfolding resolved
-length_is Auto b e = none_is
-length_is (Pixels x) b e = some_is (pixel_is x e)
-length_is (Fraction f) b e = no e
-
-pub option_is : (o : OptionF32) → whole_option o ≡ true → MayIs 1024 o (option_z o)
-option_is None e = none_is
-option_is (Some x) e = some_is (pixel_is x e)
-
-pub length_or_zero : (l : Length) (b : OptionF32) → whole_length l ≡ true → Near (resolved_or_zero l b) (or_zero_z (length_z l)) 1024
-unfolding resolved_or_zero
-length_or_zero l b e = or_zero_is (length_is l b e)
 
 -- ---- sides and sizes: t bounds the top, s both sides, b the bottom
 pub record RectIs (r : Rect) (k : RectZ) (t s b : ℕ) : Type 0 where
@@ -59,16 +39,6 @@ pub record RectIs (r : Rect) (k : RectZ) (t s b : ℕ) : Type 0 where
 pub record SizeIs (o : OptionSize) (k : SizeMay) (w h : ℕ) : Type 0 where
   pub width : MayIs w o.width k.width
   pub height : MayIs h o.height k.height
-
-pub sides_is : (l : LengthRect) (b : OptionF32) → WholeRect l → RectIs (resolved_rect l b) (sides_z (rect_z l)) 1024 1024 1024
-unfolding resolved_rect sides_z
-sides_is l b p =
-    record {
-      top = length_or_zero l.top b p.top;
-      right = length_or_zero l.right b p.right;
-      bottom = length_or_zero l.bottom b p.bottom;
-      left = length_or_zero l.left b p.left;
-    }
 
 -- ---- A
 pub record BoxIs (z : Sizing) (k : BoxZ) : Type 0 where
@@ -87,17 +57,12 @@ pub both_down : {r : Rect} {k : RectZ} → RectIs r k 2048 2048 2048 → Near (d
 unfolding down_z
 both_down p = plus_is p.top p.bottom (lit≤ tt)
 
-boxed_is : (c : Bool) {o : OptionSize} {z : SizeMay} {r : Rect} {k : RectZ} → SizeIs o z 1024 1024 → RectIs r k 2048 2048 2048 → SizeIs (cond c (add_size o (sum_axes r)) o) (box_size_z c z k) 5120 5120
+pub boxed_is : (c : Bool) {o : OptionSize} {z : SizeMay} {r : Rect} {k : RectZ} → SizeIs o z 1024 1024 → RectIs r k 2048 2048 2048 → SizeIs (cond c (add_size o (sum_axes r)) o) (box_size_z c z k) 5120 5120
 unfolding box_size_z add_size sum_axes
 boxed_is true p q = record { width = add_opt_is p.width (both_across q) (lit≤ tt); height = add_opt_is p.height (both_down q) (lit≤ tt) }
 boxed_is false p q = record { width = wide_may p.width (lit≤ tt); height = wide_may p.height (lit≤ tt) }
 
-box_size_is : (s : Style) (l : LengthSize) (b h : OptionF32) (r : Rect) (k : RectZ) → s.ratio ≡ None → WholeSize l → RectIs r k 2048 2048 2048
-    → SizeIs (box_size s l b h r) (box_size_z s.content (size_z l) k) 5120 5120
-unfolding box_size ratio_fills resolved_size
-box_size_is s l b h r k e p q = rw e (boxed_is s.content (record { width = length_is l.width b p.width; height = length_is l.height h p.height }) q)
-
-plus_rect_is : {a b : Rect} {j k : RectZ} → RectIs a j 1024 1024 1024 → RectIs b k 1024 1024 1024 → RectIs (plus a b) (plus_z j k) 2048 2048 2048
+pub plus_rect_is : {a b : Rect} {j k : RectZ} → RectIs a j 1024 1024 1024 → RectIs b k 1024 1024 1024 → RectIs (plus a b) (plus_z j k) 2048 2048 2048
 unfolding plus plus_z
 plus_rect_is p q =
     record {
@@ -106,29 +71,6 @@ plus_rect_is p q =
       bottom = plus_is p.bottom q.bottom (lit≤ tt);
       left = plus_is p.left q.left (lit≤ tt);
     }
-
-both_is : (s : Style) (b : OptionF32) → InProfile s → RectIs (plus (resolved_rect s.padding b) (resolved_rect s.border b)) (box_both_z (style_z s)) 2048 2048 2048
-unfolding box_both_z style_z
-both_is s b p = plus_rect_is (sides_is s.padding b p.padding) (sides_is s.border b p.border)
-
-sized_is : (s : Style) (b h : OptionF32) (pad bord both : Rect) → InProfile s
-    → RectIs pad (sides_z (rect_z s.padding)) 1024 1024 1024 → RectIs bord (sides_z (rect_z s.border)) 1024 1024 1024 → RectIs both (box_both_z (style_z s)) 2048 2048 2048
-    → BoxIs (sized_by s b h pad bord both) (box_of_z (style_z s))
-unfolding sized_by box_of_z style_z
-sized_is s b h pad bord both p u v w =
-    record {
-      padding = u;
-      border = v;
-      both = w;
-      size = box_size_is s s.size b h both _ p.ratio p.size w;
-      min = box_size_is s s.min b h both _ p.ratio p.min w;
-      max = box_size_is s s.max b h both _ p.ratio p.max w;
-    }
-
--- A, whatever the bases
-pub box_is : (s : Style) (b h : OptionF32) → InProfile s → BoxIs (sizing_of s b h) (box_of_z (style_z s))
-unfolding sizing_of
-box_is s b h p = sized_is s b h _ _ _ p (sides_is s.padding b p.padding) (sides_is s.border b p.border) (both_is s b p)
 
 -- ---- B
 decided_by : (t : Bool) {n : ℕ} {x : Float} {k : ℤ} → Near x k n → MayIs n (cond t (Some x) None) (cond t (SomeZ k) NoneZ)
@@ -186,7 +128,7 @@ near_cond false p q = q
 pub near_test : {s t : Bool} {x y : Float} {a b : ℤ} {n : ℕ} → s ≡ t → Near x a n → Near y b n → Near (cond s x y) (cond t a b) n
 near_test {s} {t} e p q = rw e (near_cond t p q)
 
-gutter_is : (s : Style) → InProfile s → RectIs (gutter s) (gutter_z (style_z s)) 0 1024 1024
+pub gutter_is : (s : Style) → InProfile s → RectIs (gutter s) (gutter_z (style_z s)) 0 1024 1024
 unfolding gutter gutter_z style_z
 gutter_is s p =
     let b = pixel_is s.scrollbar p.scrollbar in
@@ -195,17 +137,6 @@ gutter_is s p =
       right = near_cond s.rtl zero_is (bar_is s.overflow.y b);
       bottom = bar_is s.overflow.x b;
       left = near_cond s.rtl (bar_is s.overflow.y b) zero_is;
-    }
-
-pub insets_is : (s : Style) {r : Rect} → InProfile s → RectIs r (box_both_z (style_z s)) 2048 2048 2048 → RectIs (insets s r) (insets_z (style_z s)) 2048 3072 3072
-unfolding insets insets_z plus plus_z
-insets_is s p q =
-    let g = gutter_is s p in
-    record {
-      top = plus_is q.top g.top (lit≤ tt);
-      right = plus_is q.right g.right (lit≤ tt);
-      bottom = plus_is q.bottom g.bottom (lit≤ tt);
-      left = plus_is q.left g.left (lit≤ tt);
     }
 
 pub box_both : (s : Style) → (box_of_z (style_z s)).both ≡ box_both_z (style_z s)

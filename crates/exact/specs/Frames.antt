@@ -5,36 +5,30 @@ use Rattle.geometry.specs.Geometry.{across}
 use Rattle.geometry.specs.declared.Point.{Point}
 use Rattle.geometry.specs.declared.Rect.{Rect}
 use Rattle.util.specs.declared.OptionF32.{OptionF32}
-use Rattle.util.specs.declared.OptionF32.TheVariants.{None, Some}
+use Rattle.util.specs.declared.OptionF32.TheVariants.{None}
 use Rattle.util.specs.declared.OptionSize.{OptionSize}
 use Rattle.length.specs.Length.{is_auto}
 use Rattle.length.specs.declared.Length.{Length}
 use Rattle.length.specs.declared.Length.TheVariants.{Auto, Pixels, Fraction}
-use Rattle.length.specs.declared.LengthRect.{LengthRect}
 use Rattle.style.specs.Flow.{flow_of}
-use Rattle.style.specs.declared.Position.{Position}
-use Rattle.style.specs.declared.Position.TheVariants.{Static, Relative, Absolute}
 use Rattle.style.specs.declared.Style.{Style}
 use Rattle.steps.specs.Context.{new_context, plain_block}
 use Rattle.steps.specs.HeightBasis.{definite_of, basis_below}
 use Rattle.steps.specs.Through.{open_box, hollow_box}
-use Rattle.steps.specs.Edges.{adjoins, own_end_of, step_i, frame_of}
-use Rattle.steps.specs.Stack.{inner_width, offset_x, relative_offset, offset_by, item_of, asked_width, asked_height, child_input, question_to}
+use Rattle.steps.specs.Edges.{adjoins, own_end_of}
+use Rattle.steps.specs.Stack.{inner_width, offset_x, asked_width, asked_height}
 use Rattle.steps.specs.declared.LayoutInput.{LayoutInput}
-use Rattle.steps.specs.declared.Sizing.{Sizing}
 use Rattle.steps.specs.declared.Frame.{Frame}
 use Rattle.steps.specs.declared.BlockItem.{BlockItem}
-use Rattle.whole.specs.Range.{within_lt, within_eq, zero_is}
+use Rattle.whole.specs.Range.{within_lt, within_eq}
 use Rattle.integers.specs.Numbers.{MayZ, NoneZ, SizeMay, PointZ, RectZ, is_some_z, across_z}
 use Rattle.integers.specs.Styles.{flow_z, new_context_z, plain_block_z, InputZ}
-use Rattle.integers.specs.Boxes.{box_of_z}
-use Rattle.integers.specs.Stacks.{FrameZ, adjoins_z, open_box_z, hollow_box_z, definite_of_z, basis_below_z, step_iz, frame_of_z, inner_width_z, ItemZ, offset_xz, relative_offset_z, offset_by_z, item_of_z, asked_width_z, asked_height_z, child_input_z, question_to_z}
-use Rattle.profile.specs.Profile.{whole_length, two_autos}
-use Rattle.profile.specs.Page.{WholeRect, InProfile}
-use Rattle.exact.specs.Near.{Near, nought, wide, plus_is, minus_is, MayIs, none_is, some_is, or_else_is, unwrap_is, or_zero_is, is_some_is, sub_opt_is, neg_opt_is, clamp_opt_is, floor_opt_is}
-use Rattle.exact.specs.Read.{length_z, rect_z, style_z}
-use Rattle.exact.specs.Boxes.{no, length_is, RectIs, SizeIs, BoxIs, sides_is, both_across, both_down, box_is, box_both, known_is, near_cond, insets_is, inset_across, inset_down}
-use Rattle.exact.specs.Widths.{AvailableIs, max_is}
+use Rattle.integers.specs.Stacks.{FrameZ, adjoins_z, open_box_z, hollow_box_z, definite_of_z, basis_below_z, inner_width_z, ItemZ, offset_xz, asked_width_z, asked_height_z}
+use Rattle.profile.specs.Profile.{whole_length}
+use Rattle.exact.specs.Near.{Near, nought, wide, plus_is, minus_is, MayIs, none_is, or_else_is, or_zero_is, is_some_is, sub_opt_is, neg_opt_is, clamp_opt_is, floor_opt_is}
+use Rattle.exact.specs.Read.{length_z, style_z}
+use Rattle.exact.specs.Boxes.{no, RectIs, SizeIs, BoxIs, both_across, both_down, near_cond, inset_across, inset_down}
+use Rattle.exact.specs.Widths.{AvailableIs}
 use Rattle.exact.specs.Tall.{Tall, same, tall_larger, tall_clamped, tall_unwrap}
 
 -- ---- a question: w bounds the widths
@@ -66,7 +60,7 @@ pub plain_is : (s : Style) → plain_block s ≡ plain_block_z (style_z s)
 unfolding plain_block plain_block_z new_context new_context_z flow_of flow_z style_z
 plain_is s = refl
 
-adjoins_is : (s : Style) {a b : Bool} {x y : Float} {j k : ℤ} {n m : ℕ} → a ≡ b → Near x j n → Near y k m → adjoins s a x y ≡ adjoins_z (style_z s) b j k
+pub adjoins_is : (s : Style) {a b : Bool} {x y : Float} {j k : ℤ} {n m : ℕ} → a ≡ b → Near x j n → Near y k m → adjoins s a x y ≡ adjoins_z (style_z s) b j k
 unfolding adjoins adjoins_z
 adjoins_is s e p q = rw (e, plain_is s, within_eq p nought, within_eq q nought)
 
@@ -74,11 +68,11 @@ open_is : {a b : Rect} {j k : RectZ} → RectIs a j 1024 1024 1024 → RectIs b 
 unfolding open_box open_box_z
 open_is p q = rw (within_lt nought p.top, within_lt nought p.bottom, within_lt nought q.top, within_lt nought q.bottom)
 
-hollow_is : (s : Style) {t u : Bool} {a b : Rect} {j k : RectZ} → t ≡ u → RectIs a j 1024 1024 1024 → RectIs b k 1024 1024 1024 → hollow_box s t a b ≡ hollow_box_z (style_z s) u j k
+pub hollow_is : (s : Style) {t u : Bool} {a b : Rect} {j k : RectZ} → t ≡ u → RectIs a j 1024 1024 1024 → RectIs b k 1024 1024 1024 → hollow_box s t a b ≡ hollow_box_z (style_z s) u j k
 unfolding hollow_box hollow_box_z
 hollow_is s e p q = rw (e, plain_is s, open_is p q)
 
-own_end_is : (s : Style) {a b : Bool} {x y : Float} {j k : ℤ} {n m r : ℕ} {o : OptionF32} {c : MayZ} → a ≡ b → Near x j n → Near y k m → MayIs r o c → own_end_of s a x y o ≡ (adjoins_z (style_z s) b j k && not (is_some_z c))
+pub own_end_is : (s : Style) {a b : Bool} {x y : Float} {j k : ℤ} {n m r : ℕ} {o : OptionF32} {c : MayZ} → a ≡ b → Near x j n → Near y k m → MayIs r o c → own_end_of s a x y o ≡ (adjoins_z (style_z s) b j k && not (is_some_z c))
 unfolding own_end_of
 own_end_is s e p q r = rw (adjoins_is s e p q, is_some_is r)
 
@@ -90,39 +84,13 @@ definite_of_is : {w : ℕ} {q : LayoutInput} {z : InputZ} {o : OptionF32} {a : M
 unfolding definite_of definite_of_z
 definite_of_is {w} {q} {z} p r = rw (is_some_is p.known.height, p.definite) (may_cond (is_some_z z.known.height && not z.definiteHeight) r)
 
-basis_is : {w u : ℕ} {q : LayoutInput} {z : InputZ} {o : OptionSize} {a : SizeMay} {r : Rect} {k : RectZ} → InputIs w q z → SizeIs o a u 5120 → RectIs r k 2048 3072 3072 → MayIs 10240 (basis_below q o r) (basis_below_z z a k)
+pub basis_is : {w u : ℕ} {q : LayoutInput} {z : InputZ} {o : OptionSize} {a : SizeMay} {r : Rect} {k : RectZ} → InputIs w q z → SizeIs o a u 5120 → RectIs r k 2048 3072 3072 → MayIs 10240 (basis_below q o r) (basis_below_z z a k)
 unfolding basis_below basis_below_z
 basis_is p s r = sub_opt_is (definite_of_is p s.height) (inset_down r) (lit≤ tt)
 
-rtl_is : (s : Style) → s.rtl ≡ (style_z s).rtl
+pub rtl_is : (s : Style) → s.rtl ≡ (style_z s).rtl
 unfolding style_z
 rtl_is s = refl
-
-step_i_is : (s : Style) {w : ℕ} {q : LayoutInput} {z : InputZ} {b : Sizing} {o : OptionSize} {a : SizeMay} {x : Float} {k : ℤ} → InProfile s → InputIs w q z → BoxIs b (box_of_z (style_z s)) → SizeIs o a w 5120 → Near x k w
-    → FrameIs w (step_i s q b o x) (step_iz (style_z s) z (box_of_z (style_z s)) a k)
-unfolding step_i step_iz
-step_i_is s p q b o x =
-    let i = insets_is s p (rw (box_both s) at b.both) in
-    record {
-      width = x;
-      height = o.height;
-      inset = i;
-      floor = both_down b.both;
-      least = b.min.height;
-      most = b.max.height;
-      basis = basis_is q o i;
-      ownStart = adjoins_is s q.start b.padding.top b.border.top;
-      ownEnd = own_end_is s q.end b.padding.bottom b.border.bottom b.size.height;
-      hollow = hollow_is s q.nested b.padding b.border;
-      rtl = rtl_is s;
-    }
-
-pub frame_is : (s : Style) {w : ℕ} {q : LayoutInput} {z : InputZ} {x : Float} {k : ℤ} → InProfile s → InputIs w q z → Near x k w → 5120 ≤ w → FrameIs w (frame_of s q x) (frame_of_z (style_z s) z k)
-unfolding frame_of frame_of_z
-frame_is s {w} {q} p i x u =
-    let b = box_is s q.parent q.basis p in
-    let o = known_is s p b i.known u (lit≤ tt) in
-    step_i_is s p i b o (unwrap_is o.width x)
 
 -- ---- a child of the stack
 pub inner_is : {w : ℕ} {f : Frame} {z : FrameZ} → FrameIs w f z → w + 6144 ≤ 2 ^ 24 → Near (inner_width f) (inner_width_z z) (w + 6144)
@@ -141,43 +109,15 @@ pub record ItemIs (i : BlockItem) (z : ItemZ) : Type 0 where
   pub sides : (i.left && i.right) ≡ false
   pub offset : PointIs 1024 1024 i.offset z.offset
 
-offset_x_is : (t : Bool) {l r : OptionF32} {a b : MayZ} → MayIs 1024 l a → MayIs 1024 r b → Near (offset_x l r t) (offset_xz a b t) 1024
+pub offset_x_is : (t : Bool) {l r : OptionF32} {a b : MayZ} → MayIs 1024 l a → MayIs 1024 r b → Near (offset_x l r t) (offset_xz a b t) 1024
 unfolding offset_x offset_xz
 offset_x_is t p q = near_cond t (or_zero_is (or_else_is (neg_opt_is q) p)) (or_zero_is (or_else_is p (neg_opt_is q)))
 
-relative_is : (l : LengthRect) (t : Bool) (b h : OptionF32) → WholeRect l → PointIs 1024 1024 (relative_offset l t b h) (relative_offset_z (rect_z l) t)
-unfolding relative_offset relative_offset_z
-relative_is l t b h p =
-    record {
-      x = offset_x_is t (length_is l.left b p.left) (length_is l.right b p.right);
-      y = or_zero_is (or_else_is (length_is l.top h p.top) (neg_opt_is (length_is l.bottom h p.bottom)));
-    }
-
-offset_by_is : (o : Position) (l : LengthRect) (t : Bool) (b h : OptionF32) → WholeRect l → PointIs 1024 1024 (offset_by o l t b h) (offset_by_z o (rect_z l) t)
-unfolding offset_by offset_by_z
-offset_by_is Static l t b h p = record { x = zero_is; y = zero_is }
-offset_by_is Relative l t b h p = relative_is l t b h p
-offset_by_is Absolute l t b h p = record { x = zero_is; y = zero_is }
-
-auto_is : (l : Length) → whole_length l ≡ true → is_auto l ≡ not (is_some_z (length_z l))
+pub auto_is : (l : Length) → whole_length l ≡ true → is_auto l ≡ not (is_some_z (length_z l))
 unfolding is_auto is_some_z
 auto_is Auto e = refl
 auto_is (Pixels x) e = refl
 auto_is (Fraction f) e = no e
-
-pub item_is : (s : Style) {w : ℕ} {f : Frame} {z : FrameZ} → InProfile s → two_autos s ≡ false → FrameIs w f z → ItemIs (item_of f s) (item_of_z z (style_z s))
-unfolding item_of item_of_z style_z
-item_is s {w} {f} {z} p e q =
-    let l = auto_is s.margin.left p.margin.left in
-    let r = auto_is s.margin.right p.margin.right in
-    record {
-      sizing = box_is s (Some (inner_width f)) f.heightBasis p;
-      margin = sides_is s.margin (Some (inner_width f)) p.margin;
-      left = l;
-      right = r;
-      sides = e;
-      offset = rw (← q.rtl) (offset_by_is s.position s.inset f.rtl (Some (inner_width f)) f.heightBasis p.inset);
-    }
 
 -- both side margins
 pub margins_across : {r : Rect} {k : RectZ} → RectIs r k 1024 1024 1024 → Near (across r) (across_z k) 2048
@@ -193,24 +133,8 @@ asked_width_is p q u =
     let b = q.sizing in
     tall_larger (tall_clamped (tall_unwrap b.size.width (same m refl)) b.min.width b.max.width) (wide (both_across b.both) (lit≤ tt))
 
-asked_height_is : {i : BlockItem} {j : ItemZ} → ItemIs i j → MayIs 5120 (asked_height i) (asked_height_z j)
+pub asked_height_is : {i : BlockItem} {j : ItemZ} → ItemIs i j → MayIs 5120 (asked_height i) (asked_height_z j)
 unfolding asked_height asked_height_z
 asked_height_is q =
     let b = q.sizing in
     floor_opt_is (clamp_opt_is b.size.height b.min.height b.max.height) (wide (both_down b.both) (lit≤ tt))
-
-pub question_is : (s : Style) {w v : ℕ} {f : Frame} {z : FrameZ} → InProfile s → two_autos s ≡ false → FrameIs w f z → w + 6144 ≤ 1048576 → Near (asked_width f (item_of f s)) (asked_width_z z (item_of_z z (style_z s))) v
-    → InputIs v (question_to f s) (question_to_z z (style_z s))
-unfolding question_to question_to_z child_input child_input_z
-question_is s p e q u a =
-    let i = item_is s p e q in
-    record {
-      known = record { width = some_is a; height = asked_height_is i };
-      parent = some_is (wide (inner_is q (omega arith)) u);
-      basis = q.basis;
-      definite = refl;
-      available = max_is;
-      start = plain_is s;
-      end = plain_is s;
-      nested = refl;
-    }

@@ -8,34 +8,29 @@ use Rattle.geometry.specs.Geometry.{down}
 use Rattle.util.specs.Maybe.{add_opt}
 use Rattle.util.specs.declared.OptionF32.{OptionF32}
 use Rattle.util.specs.declared.OptionF32.TheVariants.{None}
-use Rattle.length.specs.Length.{resolved_or_zero}
 use Rattle.alignment.specs.Align.{room_of, align_shift}
 use Rattle.style.specs.declared.AlignContent.{AlignContent}
 use Rattle.style.specs.declared.AlignContent.TheVariants.{Normal, Start, Center, End, SpaceBetween, SpaceAround, SpaceEvenly, Stretch}
 use Rattle.style.specs.declared.Style.{Style}
 use Rattle.margin.specs.declared.CollapsibleMarginSet.{CollapsibleMarginSet}
 use Rattle.steps.specs.Baseline.{shifted, block_baseline}
-use Rattle.steps.specs.Height.{extra_of, step_k, step_l, held_open, still_own_end, step_m}
-use Rattle.steps.specs.Through.{step_n, passed_out, output_of, finished, leaf_output}
-use Rattle.steps.specs.declared.LayoutInput.{LayoutInput}
+use Rattle.steps.specs.Height.{extra_of, step_k, step_l, held_open, still_own_end}
+use Rattle.steps.specs.Through.{step_n, passed_out}
 use Rattle.steps.specs.declared.Frame.{Frame}
 use Rattle.steps.specs.declared.Cursor.{Cursor}
 use Rattle.steps.specs.declared.Finished.{Finished}
 use Rattle.whole.specs.Range.{within_lt, within_le, within_eq, zero_is}
-use Rattle.integers.specs.Numbers.{MayZ, NoneZ, SetZ, or_zero_z, add_opt_z, down_z}
-use Rattle.integers.specs.Styles.{InputZ}
+use Rattle.integers.specs.Numbers.{MayZ, NoneZ, SetZ, add_opt_z, down_z}
 use Rattle.integers.specs.Stacks.{FrameZ, CursorZ}
-use Rattle.integers.specs.Heights.{extra_of_z, step_kz, step_lz, held_open_z, still_own_end_z, room_of_z, align_shift_z, step_mz, shifted_z, step_nz, passed_out_z, output_of_z, FinishedZ, finished_z, leaf_output_z}
+use Rattle.integers.specs.Heights.{extra_of_z, step_kz, step_lz, held_open_z, still_own_end_z, room_of_z, align_shift_z, shifted_z, step_nz, passed_out_z, FinishedZ}
 use Rattle.profile.specs.Profile.{centers}
-use Rattle.profile.specs.Page.{InProfile}
-use Rattle.exact.specs.Near.{Near, nought, wide, plus_is, minus_is, larger_is, MayIs, none_is, some_is, wide_may, unwrap_is}
-use Rattle.exact.specs.Read.{measure_z, style_z}
-use Rattle.exact.specs.Boxes.{no, pixel_is, option_is, length_or_zero, near_test, inset_down}
-use Rattle.exact.specs.Widths.{leaf_width_is}
-use Rattle.exact.specs.Tall.{Tall, short, same, tall_larger, tall_clamped, tall_unwrap, cancels, closer}
-use Rattle.exact.specs.Sets.{SetIs, no_margins_is, set_of_is, sum_of_is, set_test}
-use Rattle.exact.specs.Frames.{InputIs, FrameIs}
-use Rattle.exact.specs.Stacks.{OutIs, OutAt, CursorIs, CursorAt, at_top_is}
+use Rattle.exact.specs.Near.{Near, nought, wide, plus_is, minus_is, larger_is, MayIs, none_is, some_is, wide_may}
+use Rattle.exact.specs.Read.{style_z}
+use Rattle.exact.specs.Boxes.{no, near_test}
+use Rattle.exact.specs.Tall.{Tall, same, tall_larger, tall_clamped, tall_unwrap, cancels, closer}
+use Rattle.exact.specs.Sets.{SetIs, set_of_is, sum_of_is, set_test}
+use Rattle.exact.specs.Frames.{FrameIs}
+use Rattle.exact.specs.Stacks.{OutAt, CursorIs, at_top_is}
 
 or_same : {a b c d : Bool} → a ≡ b → c ≡ d → (a || c) ≡ (b || d)
 or_same e h = rw (e, h)
@@ -48,12 +43,12 @@ extra_is : {w n l : ℕ} {f : Frame} {g : FrameZ} {c : Cursor} {z : CursorZ} →
 unfolding extra_of extra_of_z
 extra_is p q = near_test (or_same p.ownEnd (at_top_is p q)) zero_is (sum_of_is q.strut)
 
-step_k_is : {w n l : ℕ} {f : Frame} {g : FrameZ} {c : Cursor} {z : CursorZ} → FrameIs w f g → CursorIs n l c z → n + 4096 ≤ 2 ^ 24 → Near (step_k f c) (step_kz g z) (n + 1024 + 3072)
+pub step_k_is : {w n l : ℕ} {f : Frame} {g : FrameZ} {c : Cursor} {z : CursorZ} → FrameIs w f g → CursorIs n l c z → n + 4096 ≤ 2 ^ 24 → Near (step_k f c) (step_kz g z) (n + 1024 + 3072)
 unfolding step_k step_kz
 step_k_is p q u = larger_is zero_is (plus_is (plus_is q.y (extra_is p q) (omega arith)) p.inset.bottom (omega arith))
 
 -- ---- L
-step_l_is : {w n : ℕ} {f : Frame} {g : FrameZ} {x : Float} {c : ℤ} → FrameIs w f g → Near x c n → Tall n c (step_l f x) (step_lz g c)
+pub step_l_is : {w n : ℕ} {f : Frame} {g : FrameZ} {x : Float} {c : ℤ} → FrameIs w f g → Near x c n → Tall n c (step_l f x) (step_lz g c)
 unfolding step_l step_lz
 step_l_is p q = tall_larger (tall_unwrap p.height (tall_clamped (same q refl) p.least p.most)) (wide p.floor (lit≤ tt))
 
@@ -62,21 +57,21 @@ unfolding held_open held_open_z
 held_is none_is q = refl
 held_is (some_is p) q = rw (within_lt nought p, within_le q p)
 
-still_is : {w n : ℕ} {f : Frame} {g : FrameZ} {x : Float} {k : ℤ} → FrameIs w f g → Near x k n → still_own_end f x ≡ still_own_end_z g k
+pub still_is : {w n : ℕ} {f : Frame} {g : FrameZ} {x : Float} {k : ℤ} → FrameIs w f g → Near x k n → still_own_end f x ≡ still_own_end_z g k
 unfolding still_own_end still_own_end_z
 still_is p q = and_same p.ownEnd (ap not (held_is p.least q))
 
 -- ---- M
-abbrev freed : Float → Float → Float → Float
+abbrev pub freed : Float → Float → Float → Float
 freed h i c = (h ⊖ i) ⊖ (c ⊖ i)
 
-abbrev freed_z : ℤ → ℤ → ℤ → ℤ
+abbrev pub freed_z : ℤ → ℤ → ℤ → ℤ
 freed_z h i c = (h -ℤ i) -ℤ (c -ℤ i)
 
-free_short : {n : ℕ} {h i c : Float} {a b d : ℤ} → Near h a 5120 → Near i b 5120 → Near c d n → n + 15360 ≤ 2 ^ 24 → Near (freed h i c) (freed_z a b d) (5120 + n)
+pub free_short : {n : ℕ} {h i c : Float} {a b d : ℤ} → Near h a 5120 → Near i b 5120 → Near c d n → n + 15360 ≤ 2 ^ 24 → Near (freed h i c) (freed_z a b d) (5120 + n)
 free_short {n} {h} {i} {c} {a} {b} {d} p q r u = closer (minus_is (minus_is p q (lit≤ tt)) (minus_is r q (omega arith)) (omega arith)) (cancels a b d) (minus_is p r (omega arith))
 
-free_same : {n : ℕ} {h i c : Float} {a b d : ℤ} → Near h a n → a ≡ d → Near i b 5120 → Near c d n → n + n + 10240 ≤ 2 ^ 24 → Near (freed h i c) (freed_z a b d) 0
+pub free_same : {n : ℕ} {h i c : Float} {a b d : ℤ} → Near h a n → a ≡ d → Near i b 5120 → Near c d n → n + n + 10240 ≤ 2 ^ 24 → Near (freed h i c) (freed_z a b d) 0
 free_same {n} {h} {i} {c} {a} {b} {d} p e q r u =
     closer (minus_is (minus_is p q (omega arith)) (minus_is r q (omega arith)) (omega arith)) (cancels a b d ∙ ap (λ (z : ℤ). z -ℤ d) e ∙ +ℤ_invr d) nought
 
@@ -84,7 +79,7 @@ room_is : (s : Bool) {x : Float} {k : ℤ} {n : ℕ} → Near x k n → Near (ro
 unfolding room_of room_of_z
 room_is s p = near_test (ap (λ (t : Bool). s && t) (within_lt p nought)) zero_is p
 
-align_is : (a : AlignContent) (s : Bool) {x : Float} {k : ℤ} {n : ℕ} → centers a ≡ false → Near x k n → MayIs n (align_shift a s x) (align_shift_z a s k)
+pub align_is : (a : AlignContent) (s : Bool) {x : Float} {k : ℤ} {n : ℕ} → centers a ≡ false → Near x k n → MayIs n (align_shift a s x) (align_shift_z a s k)
 unfolding align_shift align_shift_z
 align_is Normal s e p = none_is
 align_is Start s e p = none_is
@@ -95,15 +90,11 @@ align_is SpaceAround s e p = no (sym e)
 align_is SpaceEvenly s e p = no (sym e)
 align_is Stretch s e p = none_is
 
-abbrev free_in : Frame → Float → Float → Float
+abbrev pub free_in : Frame → Float → Float → Float
 free_in f h c = freed h (down f.inset) c
 
-abbrev free_in_z : FrameZ → ℤ → ℤ → ℤ
+abbrev pub free_in_z : FrameZ → ℤ → ℤ → ℤ
 free_in_z f h c = freed_z h (down_z f.inset) c
-
-step_m_is : (s : Style) (f : Frame) (g : FrameZ) (h c : Float) (a b : ℤ) {n : ℕ} → InProfile s → Near (free_in f h c) (free_in_z g a b) n → MayIs n (step_m s f h c) (step_mz (style_z s) g a b)
-unfolding step_m step_mz style_z
-step_m_is s f g h c a b p q = align_is s.align s.safe p.aligned q
 
 shifted_is : {n m : ℕ} {o d : OptionF32} {a b : MayZ} → MayIs n o a → MayIs m d b → n + m ≤ 2 ^ 24 → MayIs (n + m) (shifted o d) (shifted_z a b)
 unfolding shifted shifted_z add_opt add_opt_z
@@ -115,39 +106,18 @@ line_cond : (t : Bool) {n : ℕ} {o : OptionF32} {a : MayZ} → MayIs n o a → 
 line_cond true p = none_is
 line_cond false p = p
 
-block_line_is : (s : Style) {n m : ℕ} {o d : OptionF32} {a b : MayZ} → MayIs n o a → MayIs m d b → n + m ≤ 2 ^ 24 → MayIs (n + m) (block_baseline s o d) (cond (style_z s).contained NoneZ (shifted_z a b))
+pub block_line_is : (s : Style) {n m : ℕ} {o d : OptionF32} {a b : MayZ} → MayIs n o a → MayIs m d b → n + m ≤ 2 ^ 24 → MayIs (n + m) (block_baseline s o d) (cond (style_z s).contained NoneZ (shifted_z a b))
 unfolding block_baseline style_z
 block_line_is s p q u = line_cond s.contained (shifted_is p q u)
 
 -- ---- N
-step_n_is : {w n l m : ℕ} {f : Frame} {g : FrameZ} {c : Cursor} {z : CursorZ} {x : Float} {k : ℤ} → FrameIs w f g → CursorIs n l c z → Near x k m → step_n f c x ≡ step_nz g z k
+pub step_n_is : {w n l m : ℕ} {f : Frame} {g : FrameZ} {c : Cursor} {z : CursorZ} {x : Float} {k : ℤ} → FrameIs w f g → CursorIs n l c z → Near x k m → step_n f c x ≡ step_nz g z k
 unfolding step_n step_nz
 step_n_is p q r = and_same p.hollow (and_same (within_eq r nought) q.through)
 
-passed_is : {s t : Bool} {a : CollapsibleMarginSet} {k : SetZ} {x : Float} {j : ℤ} → s ≡ t → SetIs a k → Near x j 1024 → SetIs (passed_out s a x) (passed_out_z t k j)
+pub passed_is : {s t : Bool} {a : CollapsibleMarginSet} {k : SetZ} {x : Float} {j : ℤ} → s ≡ t → SetIs a k → Near x j 1024 → SetIs (passed_out s a x) (passed_out_z t k j)
 unfolding passed_out passed_out_z
 passed_is e p q = set_test e p (set_of_is q)
-
-own_top_lem : (s : Style) (b : OptionF32) → InProfile s → Near (resolved_or_zero s.margin.top b) (or_zero_z (style_z s).margin.top) 1024
-unfolding style_z
-own_top_lem s b p = length_or_zero s.margin.top b p.margin.top
-
-own_bottom : (s : Style) (b : OptionF32) → InProfile s → Near (resolved_or_zero s.margin.bottom b) (or_zero_z (style_z s).margin.bottom) 1024
-unfolding style_z
-own_bottom s b p = length_or_zero s.margin.bottom b p.margin.bottom
-
-output_is : (s : Style) (q : LayoutInput) {w n l h m : ℕ} {f : Frame} {g : FrameZ} {c : Cursor} {z : CursorZ} {x : Float} {k : ℤ} {d : OptionF32} {b : MayZ} → InProfile s → FrameIs w f g → CursorIs n l c z → Near x k h → MayIs m d b → l + m ≤ 2 ^ 24
-    → OutIs w h (l + m) (output_of s q f c x d) (output_of_z (style_z s) g z k b)
-unfolding output_of output_of_z
-output_is s q p f c x d u =
-    record {
-      width = f.width;
-      height = x;
-      top = passed_is f.ownStart c.top (own_top_lem s q.parent p);
-      bottom = passed_is (still_is f x) c.strut (own_bottom s q.parent p);
-      through = step_n_is f c x;
-      baseline = block_line_is s c.baseline d u;
-    }
 
 -- K to N: k nodes and D levels below; l bounds the lines of the stack, which the shift moves by `by` at most
 pub record FinishedAt (w k D l : ℕ) (d : Finished) (z : FinishedZ) : Type 0 where
@@ -156,63 +126,3 @@ pub record FinishedAt (w k D l : ℕ) (d : Finished) (z : FinishedZ) : Type 0 wh
   pub shift : MayIs by d.shift z.shift
   pub near : by ≤ 11264 + 7168 * k
   pub lined : l + by ≤ output.line
-
-finish_short : (s : Style) (q : LayoutInput) (k D : ℕ) {w : ℕ} {f : Frame} {g : FrameZ} {c : Cursor} {z : CursorZ} {h x : Float} {a b : ℤ} → InProfile s → FrameIs w f g → (p : CursorAt k D c z) → Near x b (p.reach + 1024 + 3072) → k ≤ 1023 → D ≤ 31 → Near h a 5120
-    → FinishedAt w k D p.line (record { output = output_of s q f c h (step_m s f h x); shift = step_m s f h x }) (record { output = output_of_z (style_z s) g z a (step_mz (style_z s) g a b); shift = step_mz (style_z s) g a b })
-finish_short s q k D {w} {f} {g} {c} {z} {h} {x} {a} {b} i r p t u v y =
-    let n = p.reach in
-    let l = p.line in
-    let e = p.low in
-    let j = p.sum in
-    let m : MayIs (5120 + (n + 1024 + 3072)) (step_m s f h x) (step_mz (style_z s) g a b) = step_m_is s f g h x a b i (free_short y (inset_down r.inset) t (omega arith)) in
-    record {
-      output = record { tall = 5120; line = l + (5120 + (n + 1024 + 3072)); is = output_is s q i r p.is y m (omega arith); low = omega arith; sum = omega arith };
-      by = 5120 + (n + 1024 + 3072);
-      shift = m;
-      near = omega arith;
-      lined = omega arith;
-    }
-
-finish_same : (s : Style) (q : LayoutInput) (k D : ℕ) {w : ℕ} {f : Frame} {g : FrameZ} {c : Cursor} {z : CursorZ} {h x : Float} {a b : ℤ} → InProfile s → FrameIs w f g → (p : CursorAt k D c z) → Near x b (p.reach + 1024 + 3072) → k ≤ 1023 → D ≤ 31 → Near h a (p.reach + 1024 + 3072) → a ≡ b
-    → FinishedAt w k D p.line (record { output = output_of s q f c h (step_m s f h x); shift = step_m s f h x }) (record { output = output_of_z (style_z s) g z a (step_mz (style_z s) g a b); shift = step_mz (style_z s) g a b })
-finish_same s q k D {w} {f} {g} {c} {z} {h} {x} {a} {b} i r p t u v y o =
-    let n = p.reach in
-    let l = p.line in
-    let e = p.low in
-    let j = p.sum in
-    let m : MayIs 0 (step_m s f h x) (step_mz (style_z s) g a b) = step_m_is s f g h x a b i (free_same y o (inset_down r.inset) t (omega arith)) in
-    record {
-      output = record { tall = n + 1024 + 3072; line = l + 0; is = output_is s q i r p.is y m (omega arith); low = omega arith; sum = omega arith };
-      by = 0;
-      shift = m;
-      near = omega arith;
-      lined = omega arith;
-    }
-
-finish_by : (s : Style) (q : LayoutInput) (k D : ℕ) {w : ℕ} {f : Frame} {g : FrameZ} {c : Cursor} {z : CursorZ} {h x : Float} {a b : ℤ} → InProfile s → FrameIs w f g → (p : CursorAt k D c z) → Near x b (p.reach + 1024 + 3072) → k ≤ 1023 → D ≤ 31 → Tall (p.reach + 1024 + 3072) b h a
-    → FinishedAt w k D p.line (record { output = output_of s q f c h (step_m s f h x); shift = step_m s f h x }) (record { output = output_of_z (style_z s) g z a (step_mz (style_z s) g a b); shift = step_mz (style_z s) g a b })
-finish_by s q k D i r p t u v (short y) = finish_short s q k D i r p t u v y
-finish_by s q k D i r p t u v (same y o) = finish_same s q k D i r p t u v y o
-
-pub finished_is : (s : Style) (q : LayoutInput) (k D : ℕ) {w : ℕ} {f : Frame} {g : FrameZ} {c : Cursor} {z : CursorZ} → InProfile s → FrameIs w f g → (p : CursorAt k D c z) → k ≤ 1023 → D ≤ 31 → FinishedAt w k D p.line (finished s q f c) (finished_z (style_z s) g z)
-unfolding finished finished_z
-finished_is s q k D i r p u v =
-    let e = p.low in
-    let t = step_k_is r p.is (omega arith) in
-    finish_by s q k D i r p t u v (step_l_is r t)
-
--- ---- a leaf
-pub leaf_by : (s : Style) {w : ℕ} {q : LayoutInput} {z : InputZ} → InProfile s → InputIs w q z → 1024 ≤ w → OutIs w 5120 1024 (leaf_output s.measure q) (leaf_output_z (measure_z s.measure) z)
-unfolding leaf_output leaf_output_z
-leaf_by s p q u =
-    record {
-      width = unwrap_is q.known.width (wide (leaf_width_is s p q.available) u);
-      height = unwrap_is q.known.height (wide (pixel_is s.measure.height p.height) (lit≤ tt));
-      top = no_margins_is;
-      bottom = no_margins_is;
-      through = refl;
-      baseline = option_is s.measure.baseline p.baseline;
-    }
-
-pub leaf_is : (s : Style) (k D : ℕ) {w : ℕ} {q : LayoutInput} {z : InputZ} → InProfile s → InputIs w q z → 1024 ≤ w → OutAt w (suc k) D (leaf_output s.measure q) (leaf_output_z (measure_z s.measure) z)
-leaf_is s k D p q u = record { tall = 5120; line = 1024; is = leaf_by s p q u; low = omega arith; sum = omega arith }

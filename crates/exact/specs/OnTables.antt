@@ -6,12 +6,10 @@ use Rattle.limits.specs.Bools.{or_left}
 use Rattle.tree.specs.Tree.{Tree, count_t, depth_t}
 use Rattle.steps.specs.Row.{Row}
 use Rattle.steps.specs.Scan.{lowest}
-use Rattle.steps.specs.Page.{nodes_in, page_of}
+use Rattle.steps.specs.Page.{page_of}
 use Rattle.steps.specs.Candidates.{candidates, candidate_numbers}
-use Rattle.steps.specs.SizeQuestion.{size_of}
-use Rattle.steps.specs.Layout.{fresh}
-use Rattle.steps.specs.Noes.{bad_tables, bad_rows, bad_row, refuse_if, no5, page_tested, layout_tested, relayout_tested, size_tested}
-use Rattle.steps.specs.Results.{Reply, rows_out, listed, on_front, accepted, over_limit, replied, tested, layout_result, relayout_result, size_reply, size_by_test, size_result}
+use Rattle.steps.specs.Noes.{bad_tables, bad_rows, bad_row, refuse_if, no5, page_tested, layout_tested}
+use Rattle.steps.specs.Results.{Reply, rows_out, listed, on_front, accepted, over_limit, replied, tested, size_reply, size_by_test, size_result}
 use Rattle.steps.specs.declared.LayoutInput.{LayoutInput}
 use Rattle.steps.specs.declared.RequestedAxis.{RequestedAxis}
 use Rattle.steps.specs.declared.Answer.TheVariants.{Done, Lengths}
@@ -24,14 +22,10 @@ use Rattle.steps.specs.declared.Spot.TheVariants as spot
 use Rattle.tables.specs.TreeCheck.{GoodTable}
 use Rattle.tables.proofs.Passing.{sized, page_passes, then_pass_1, then_pass_2, if_pass}
 use Rattle.tables.proofs.GoodPage.{good_page}
-use Rattle.laws.specs.Tables.{SameShape, Named, Checks, Calls}
-use Rattle.laws.proofs.Demand3.{relayout_is_layout}
-use Rattle.laws.specs.Answers.{relayout_layout}
 use Rattle.whole.specs.Whole.{Whole}
 use Rattle.integers.specs.Numbers.{SizeZ}
 use Rattle.integers.specs.Rows.{RowZ}
 use Rattle.integers.specs.Layout.{fresh_z}
-use Rattle.integers.specs.Sizes.{size_of_z}
 use Rattle.integers.specs.Candidates.{candidates_z}
 use Rattle.integers.specs.Results.{rows_out_z, marks_out_z, candidate_words_z, candidate_numbers_z}
 use Rattle.profile.specs.Profile.{profile_spot}
@@ -43,22 +37,21 @@ use Rattle.exact.specs.Widths.{Holds}
 use Rattle.exact.specs.Rows.{Same}
 use Rattle.exact.specs.Candidates.{CandsAre}
 use Rattle.exact.specs.Listed.{same_count, same_words, same_numbers}
-use Rattle.exact.specs.Fresh.{fresh_is_exact, candidates_are_exact}
-use Rattle.exact.specs.Sizes.{SizeHolds, size_is_exact}
-use Rattle.exact.specs.Lists.{RelL, rel-weak, rows_out_lem, marks_out_lem, small_number, no_eight}
+use Rattle.exact.specs.Sizes.{SizeHolds}
+use Rattle.exact.specs.Lists.{RelL, rel-weak, rows_out_lem, marks_out_lem, small_number}
 
 -- the rows that the integer engine gives the page of these tables
 abbrev pub rows_z : List ℕ → List Float → LayoutInput → Tree RowZ
 rows_z ws xs q = (fresh_z (page_z (page_of ws xs [])) (input_z q)).rows
 
 -- what the test of the profile and the tests before any write tell
-record Told (ws : List ℕ) (xs : List Float) (q : LayoutInput) : Type 0 where
-  page : ProfilePage (page_of ws xs [])
-  question : ProfileQuestion q
-  count : count_t (page_of ws xs []) ≤ 1024
-  depth : depth_t (page_of ws xs []) ≤ 32
+pub record Told (ws : List ℕ) (xs : List Float) (q : LayoutInput) : Type 0 where
+  pub page : ProfilePage (page_of ws xs [])
+  pub question : ProfileQuestion q
+  pub count : count_t (page_of ws xs []) ≤ 1024
+  pub depth : depth_t (page_of ws xs []) ≤ 32
 
-told : (ws : List ℕ) (xs : List Float) (q : LayoutInput) → bad_tables ws xs ≡ false → page_tested ws xs q ≡ Pass → profile_spot ws xs q ≡ spot.Nowhere → Told ws xs q
+pub told : (ws : List ℕ) (xs : List Float) (q : LayoutInput) → bad_tables ws xs ≡ false → page_tested ws xs q ≡ Pass → profile_spot ws xs q ≡ spot.Nowhere → Told ws xs q
 told ws xs q b t e =
     let z = sized ws xs b in
     let p = page_passes ws xs q t in
@@ -90,11 +83,11 @@ limit_reply : (w : Found) (t : Tree Row) (rs : List Float) (ms cw : List ℕ) (c
 unfolding over_limit
 limit_reply w t rs ms cw cx e = rw e
 
-passed_reply : (u : Tested) (n : ℕ) (t : Tree Row) (rs : List Float) (ms cw : List ℕ) (cx : List Float) → u ≡ Pass → lowest (bad_row (rows_out t)) n ≡ Nowhere → tested u (replied n t rs ms cw cx) rs ms cw cx ≡ accepted t cw cx
+pub passed_reply : (u : Tested) (n : ℕ) (t : Tree Row) (rs : List Float) (ms cw : List ℕ) (cx : List Float) → u ≡ Pass → lowest (bad_row (rows_out t)) n ≡ Nowhere → tested u (replied n t rs ms cw cx) rs ms cw cx ≡ accepted t cw cx
 unfolding tested replied
 passed_reply u n t rs ms cw cx p e = rw p (limit_reply (lowest (bad_row (rows_out t)) n) t rs ms cw cx e)
 
-exact_reply : (t : Tree Row) (u : Tree RowZ) (cw : List ℕ) (cx : List Float) → RelT Same t u → CandsAre 16777215 16777215 (candidates t) (candidates_z u) → ExactReply (accepted t cw cx) u cw cx
+pub exact_reply : (t : Tree Row) (u : Tree RowZ) (cw : List ℕ) (cx : List Float) → RelT Same t u → CandsAre 16777215 16777215 (candidates t) (candidates_z u) → ExactReply (accepted t cw cx) u cw cx
 unfolding accepted
 exact_reply t u cw cx p q =
     record {
@@ -107,28 +100,11 @@ exact_reply t u cw cx p q =
       numbers = rel-weak Holds Whole (λ x k h. h.whole) _ _ (same_numbers _ _ q);
     }
 
-layout_told : (ws : List ℕ) (xs rs : List Float) (ms cw : List ℕ) (cx : List Float) (q : LayoutInput) → layout_tested ws xs rs ms cw cx q ≡ Pass → profile_spot ws xs q ≡ spot.Nowhere → Told ws xs q
+pub layout_told : (ws : List ℕ) (xs rs : List Float) (ms cw : List ℕ) (cx : List Float) (q : LayoutInput) → layout_tested ws xs rs ms cw cx q ≡ Pass → profile_spot ws xs q ≡ spot.Nowhere → Told ws xs q
 unfolding layout_tested
 layout_told ws xs rs ms cw cx q e s =
     let b = or_left (bad_tables ws xs) _ (if_pass (bad_tables ws xs || bad_rows ws rs ms) Lengths (then_pass_1 (refuse_if (bad_tables ws xs || bad_rows ws rs ms) Lengths) _ e)) in
     told ws xs q b (then_pass_1 (page_tested ws xs q) (no5 ws xs cw cx) (then_pass_2 (refuse_if (bad_tables ws xs || bad_rows ws rs ms) Lengths) _ e)) s
-
-pub layout_is_exact : (ws : List ℕ) (xs rs : List Float) (ms cw : List ℕ) (cx : List Float) (q : LayoutInput) → layout_tested ws xs rs ms cw cx q ≡ Pass → profile_spot ws xs q ≡ spot.Nowhere
-    → ExactReply (layout_result ws xs rs ms cw cx q) (rows_z ws xs q) cw cx
-unfolding layout_result
-layout_is_exact ws xs rs ms cw cx q e s =
-    let t = layout_told ws xs rs ms cw cx q e s in
-    let p = fresh_is_exact (page_of ws xs []) q t.page t.question t.count t.depth in
-    let c = candidates_are_exact (page_of ws xs []) q t.page t.question t.count t.depth in
-    rw (passed_reply (layout_tested ws xs rs ms cw cx q) (nodes_in ws) (fresh (page_of ws xs []) q).rows rs ms cw cx e (no_eight _ _ (nodes_in ws) (rows_out_lem _ _ p))) (exact_reply _ _ cw cx p c)
-
--- ---- a relayout from rows that calls left, whatever pages these were: by demand 3 it is a layout. `checks` as in crate laws; crate exact_claims puts it in.
-module _ (checks : Checks) where
-  pub relayout_is_exact : (ws : List ℕ) (xs : List Float) (q : LayoutInput) (rs : List Float) (ms : List ℕ) (ws' : List ℕ) (xs' : List Float) (cw : List ℕ) (cx : List Float) (es : List ℕ) (p : LayoutInput)
-      → Calls ws xs q rs ms → SameShape ws ws' → Named es ws xs ws' xs' → relayout_tested ws' xs' rs ms cw cx es p ≡ Pass → profile_spot ws' xs' p ≡ spot.Nowhere
-      → ExactReply (relayout_result ws' xs' rs ms cw cx es p) (rows_z ws' xs' p) cw cx
-  relayout_is_exact ws xs q rs ms ws' xs' cw cx es p calls shape named e s =
-      rw (relayout_is_layout checks ws xs q rs ms ws' xs' cw cx es p calls shape named e) (layout_is_exact ws' xs' rs ms cw cx p (relayout_layout ws' xs' rs ms cw cx es p e) s)
 
 -- ---- the size question
 pub record ExactSize (ws : List ℕ) (xs : List Float) (q : LayoutInput) (a : RequestedAxis) (z : SizeZ) : Type 0 where
@@ -141,14 +117,6 @@ size_small : (s : Size) (z : SizeZ) → SizeHolds s z → size_reply s ≡ Sized
 unfolding size_reply
 size_small s z p = rw (small_number p.width, small_number p.height)
 
-by_test_lem : (t : Tested) (s : Size) (z : SizeZ) → t ≡ Pass → SizeHolds s z → size_by_test t (size_reply s) ≡ Sized s
+pub by_test_lem : (t : Tested) (s : Size) (z : SizeZ) → t ≡ Pass → SizeHolds s z → size_by_test t (size_reply s) ≡ Sized s
 unfolding size_by_test
 by_test_lem t s z e p = rw e (size_small s z p)
-
-pub size_question_is_exact : (ws : List ℕ) (xs : List Float) (q : LayoutInput) (a : RequestedAxis) → size_tested ws xs q ≡ Pass → profile_spot ws xs q ≡ spot.Nowhere → ExactSize ws xs q a (size_of_z (page_z (page_of ws xs [])) (input_z q) a)
-unfolding size_result size_tested
-size_question_is_exact ws xs q a e s =
-    let b = if_pass (bad_tables ws xs) Lengths (then_pass_1 (refuse_if (bad_tables ws xs) Lengths) _ e) in
-    let t = told ws xs q b (then_pass_2 (refuse_if (bad_tables ws xs) Lengths) _ e) s in
-    let p = size_is_exact (page_of ws xs []) q a t.page t.question t.count t.depth in
-    record { size = size_of (page_of ws xs []) q a; answer = by_test_lem _ _ _ e p; width = p.width.whole; height = p.height.whole }

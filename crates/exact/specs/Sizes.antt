@@ -1,32 +1,25 @@
 -- The size question of a page of the profile is answered as over whole numbers. Assumes nothing.
 use Rattle.std.specs.Prelude.{◌≡◌, ◌≤◌, ℤ, Float}
-use Rattle.std.proofs.Common.{arith, lit≤}
+use Rattle.std.proofs.Common.{lit≤}
 use Rattle.geometry.specs.declared.Size.{Size}
 use Rattle.util.specs.declared.OptionF32.{OptionF32}
 use Rattle.util.specs.declared.OptionSize.{OptionSize}
-use Rattle.tree.specs.Tree.{Tree, Forest, node, map_t, map_f, count_t, depth_t}
+use Rattle.tree.specs.Tree.{Forest, node, map_f}
 use Rattle.tree.proofs.Laws.{map_t_node}
-use Rattle.steps.specs.Page.{Site, blank}
-use Rattle.steps.specs.Probe.{width_pass}
-use Rattle.steps.specs.Layout.{fresh}
-use Rattle.steps.specs.SizeQuestion.{axes, width_known, step_c, step_g, size_below, size_of}
+use Rattle.steps.specs.Page.{Site}
+use Rattle.steps.specs.SizeQuestion.{axes, width_known, step_c, step_g, size_below}
 use Rattle.steps.specs.declared.Sizing.{Sizing}
-use Rattle.steps.specs.declared.LayoutInput.{LayoutInput}
 use Rattle.steps.specs.declared.RequestedAxis.{RequestedAxis}
 use Rattle.steps.specs.declared.RequestedAxis.TheVariants.{Horizontal, Both}
 use Rattle.whole.specs.Range.{zero_is}
 use Rattle.integers.specs.Numbers.{MayZ, SizeZ, SizeMay}
 use Rattle.integers.specs.Boxes.{BoxZ}
-use Rattle.integers.specs.Styles.{StyleZ}
-use Rattle.integers.specs.Widths.{width_pass_z}
-use Rattle.integers.specs.Layout.{fresh_z}
-use Rattle.integers.specs.Sizes.{axes_z, width_known_z, step_cz, step_gz, size_below_z, size_of_z}
-use Rattle.profile.specs.Page.{InProfile, ProfilePage, ProfileQuestion}
+use Rattle.integers.specs.Sizes.{axes_z, width_known_z, step_cz, step_gz, size_below_z}
+use Rattle.profile.specs.Page.{InProfile, ProfilePage}
 use Rattle.exact.specs.Near.{Near, wide, larger_is, MayIs, none_is, some_is, unwrap_is, wide_may}
-use Rattle.exact.specs.Read.{input_z, site_z, page_z}
-use Rattle.exact.specs.Boxes.{SizeIs, BoxIs, both_down, step_b_is, step_d_is}
-use Rattle.exact.specs.Widths.{Holds, step_a_is}
-use Rattle.exact.specs.Fresh.{pass_is, input_is, fresh_at}
+use Rattle.exact.specs.Read.{site_z, page_z}
+use Rattle.exact.specs.Boxes.{SizeIs, BoxIs, both_down}
+use Rattle.exact.specs.Widths.{Holds}
 
 -- a size in both engines
 pub record SizeHolds (s : Size) (z : SizeZ) : Type 0 where
@@ -44,7 +37,7 @@ known_width_is Horizontal p none_is r = axes_is p zero_is
 known_width_is Both p (some_is q) r = axes_is p q
 known_width_is Both p none_is r = r
 
-step_c_is : (a : RequestedAxis) {o h : OptionF32} {b c : MayZ} {r : Size} {s : SizeZ} → MayIs 16777215 o b → MayIs 16777215 h c → SizeHolds r s → SizeHolds (step_c a o h r) (step_cz a b c s)
+pub step_c_is : (a : RequestedAxis) {o h : OptionF32} {b c : MayZ} {r : Size} {s : SizeZ} → MayIs 16777215 o b → MayIs 16777215 h c → SizeHolds r s → SizeHolds (step_c a o h r) (step_cz a b c s)
 unfolding step_c step_cz
 step_c_is a (some_is p) q r = known_width_is a p q r
 step_c_is a none_is q r = r
@@ -56,34 +49,14 @@ step_g_is Horizontal p q none_is r = axes_is p zero_is
 step_g_is Both p q (some_is h) r = axes_is p (larger_is h q)
 step_g_is Both p q none_is r = r
 
-size_below_is : (a : RequestedAxis) {z : Sizing} {b : BoxZ} {o : OptionSize} {c : SizeMay} {x : Float} {k : ℤ} {r : Size} {s : SizeZ} → BoxIs z b → SizeIs o c 267264 5120 → Near x k 267264 → SizeHolds r s → SizeHolds (size_below a z o x r) (size_below_z a b c k s)
+pub size_below_is : (a : RequestedAxis) {z : Sizing} {b : BoxZ} {o : OptionSize} {c : SizeMay} {x : Float} {k : ℤ} {r : Size} {s : SizeZ} → BoxIs z b → SizeIs o c 267264 5120 → Near x k 267264 → SizeHolds r s → SizeHolds (size_below a z o x r) (size_below_z a b c k s)
 unfolding size_below size_below_z
 size_below_is a p q x r = step_g_is a (wide (unwrap_is q.width x) (lit≤ tt)) (wide (both_down p.both) (lit≤ tt)) (wide_may q.height (lit≤ tt)) r
 
-page_node : (s : Site) (ks : Forest Site) → page_z (node s ks) ≡ node (site_z s) (map_f site_z ks)
+pub page_node : (s : Site) (ks : Forest Site) → page_z (node s ks) ≡ node (site_z s) (map_f site_z ks)
 unfolding page_z
 page_node s ks = map_t_node site_z s ks
 
-root_profile : (s : Site) (ks : Forest Site) → ProfilePage (node s ks) → InProfile s.style
+pub root_profile : (s : Site) (ks : Forest Site) → ProfilePage (node s ks) → InProfile s.style
 unfolding ProfilePage
 root_profile s ks p = p.0
-
-whole_size_is : (t : Tree Site) (q : LayoutInput) → ProfilePage t → ProfileQuestion q → count_t t ≤ 1024 → depth_t t ≤ 32 → SizeHolds (fresh t q).out.size (fresh_z (page_z t) (input_z q)).out.size
-whole_size_is t q p e u v =
-    let o = (fresh_at t q p e u v).out in
-    let l = o.low in
-    record { width = wide o.is.width (lit≤ tt); height = wide o.is.height (omega arith) }
-
-node_size_is : (s : Site) (ks : Forest Site) (q : LayoutInput) (a : RequestedAxis) (u : Tree StyleZ) → u ≡ node (site_z s) (map_f site_z ks) → InProfile s.style → ProfileQuestion q
-    → Near (width_pass (map_t blank (node s ks)) q).found (width_pass_z u (input_z q)).found 267264 → SizeHolds (fresh (node s ks) q).out.size (fresh_z u (input_z q)).out.size
-    → SizeHolds (size_of (node s ks) q a) (size_of_z u (input_z q) a)
-unfolding size_of size_of_z
-node_size_is s ks q a u e p i f h =
-    let z = step_a_is s.style q.parent p in
-    let b = step_b_is z (input_is 267264 q i (lit≤ tt)).known (lit≤ tt) (lit≤ tt) in
-    rw e (step_c_is a (wide_may b.width (lit≤ tt)) (wide_may b.height (lit≤ tt)) (size_below_is a z (step_d_is s.style _ p.ratio b) (rw e at f) (rw e at h)))
-
--- the size of a page of the profile is that of the integer engine, and refusal 8 does not see it
-pub size_is_exact : (t : Tree Site) (q : LayoutInput) (a : RequestedAxis) → ProfilePage t → ProfileQuestion q → count_t t ≤ 1024 → depth_t t ≤ 32 → SizeHolds (size_of t q a) (size_of_z (page_z t) (input_z q) a)
-size_is_exact (node s ks) q a p e u v =
-    node_size_is s ks q a (page_z (node s ks)) (page_node s ks) (root_profile s ks p) e (pass_is (node s ks) q p e v).found (whole_size_is (node s ks) q p e u v)

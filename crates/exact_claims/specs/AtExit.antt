@@ -16,7 +16,8 @@ use Rattle.integers.specs.Rows.{RowZ}
 use Rattle.integers.specs.Results.{rows_out_z, marks_out_z}
 use Rattle.profile.specs.Profile.{profile_spot}
 use Rattle.exact.specs.Lists.{RelL}
-use Rattle.exact.specs.OnTables.{rows_z, ExactReply, layout_is_exact}
+use Rattle.exact.specs.OnTables.{rows_z, ExactReply}
+use Rattle.exact.proofs.OnTables.{layout_is_exact}
 use Rattle.exact_claims.specs.Relayout.{relayout_is_exact}
 
 -- answer and lent memory at exit

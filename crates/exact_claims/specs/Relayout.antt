@@ -8,7 +8,7 @@ use Rattle.steps.specs.declared.Spot.TheVariants as spot
 use Rattle.laws.specs.Tables.{SameShape, Named, Calls}
 use Rattle.profile.specs.Profile.{profile_spot}
 use Rattle.exact.specs.OnTables.{rows_z, ExactReply}
-use Rattle.exact.specs.OnTables as exact
+use Rattle.exact.proofs.OnTables as exact
 use Rattle.claims.specs.Discharged.{checks}
 
 -- Rows that calls left, whatever pages these were; the same shape, every changed node named; a page and a question of the profile: a relayout that passes

@@ -12,7 +12,6 @@ use Rattle.steps.specs.Page.{page_of}
 use Rattle.steps.specs.Question.{root_input}
 use Rattle.steps.specs.Layout.{fresh}
 use Rattle.steps.specs.Noes.{layout_tested}
-use Rattle.steps.specs.Results.{layout_result}
 use Rattle.steps.specs.declared.LayoutInput.{LayoutInput}
 use Rattle.steps.specs.declared.Tested.TheVariants.{Pass}
 use Rattle.steps.specs.declared.Spot.TheVariants.{Nowhere}
@@ -25,7 +24,7 @@ use Rattle.integers.specs.Results.{candidate_numbers_z}
 use Rattle.integers.proofs.Computed.{wholes}
 use Rattle.profile.specs.Profile.{whole_sizes, whole_sides, plain_style, profile_style, of_profile, outside, else_at, profile_spot}
 use Rattle.exact.specs.Read.{style_z, input_z, page_z}
-use Rattle.exact.specs.OnTables.{rows_z, ExactReply, layout_is_exact}
+use Rattle.exact.specs.OnTables.{rows_z}
 
 unfoldable pub bill_words : List ℕ
 bill_words =
@@ -88,10 +87,10 @@ bill_boxes =
     ∷ pos 8 ∷ pos 187 ∷ pos 264 ∷ pos 12
     ∷ []
 
-abbrev box_of : ℕ → Row → List ℤ
+abbrev pub box_of : ℕ → Row → List ℤ
 box_of n r = number r.place.x ∷ number r.place.y ∷ number r.answer.size.width ∷ number r.answer.size.height ∷ []
 
-abbrev box_of_z : ℕ → RowZ → List ℤ
+abbrev pub box_of_z : ℕ → RowZ → List ℤ
 box_of_z n r = r.place.x ∷ r.place.y ∷ r.size.width ∷ r.size.height ∷ []
 
 -- the bill is of the profile
@@ -118,6 +117,3 @@ bill_stamp = refl
 pub bill_tested : layout_tested bill_words bill_numbers (replicate 224 zero_f) (replicate 28 0) (replicate 2 0) (replicate 3 zero_f) bill_question ≡ Pass
 unfolding calls bill_words bill_given bill_numbers bill_question numbers_of root_input
 bill_tested = refl
-
-pub bill_is_exact : ExactReply (layout_result bill_words bill_numbers (replicate 224 zero_f) (replicate 28 0) (replicate 2 0) (replicate 3 zero_f) bill_question) (rows_z bill_words bill_numbers bill_question) (replicate 2 0) (replicate 3 zero_f)
-bill_is_exact = layout_is_exact bill_words bill_numbers (replicate 224 zero_f) (replicate 28 0) (replicate 2 0) (replicate 3 zero_f) bill_question bill_tested bill_in_profile

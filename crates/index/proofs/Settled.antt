@@ -4,7 +4,8 @@ use mathlib.Core.Bool.{Bool}
 use mathlib.Core.List.{List}
 use Prim.Native.Nat.{ℕ}
 use native.Mathlib.Omega.{arith}
-use Rattle.answers.specs.Settled.{paper_settles, zero_is_done, from_nine}
+use Rattle.answers.specs.Settled.{paper_settles, from_nine}
+use Rattle.answers.proofs.Settled.{zero_is_done}
 use Rattle.edges.specs.Tests.{LaidRefused}
 use Rattle.index.specs.Index.{index_paper}
 use Rattle.index.specs.Due.{IndexDue}

@@ -12,10 +12,10 @@ use Rattle.style.specs.Flow.{is_leaf, flow_of}
 use Rattle.style.specs.declared.Flow.{Flow}
 use Rattle.style.specs.declared.Flow.TheVariants.{Gone, Out, In}
 use Rattle.tree.specs.Tree.{Tree, Forest, node, none, more, root_t, on_root, map_t}
-use Rattle.steps.specs.Stack.{start_of, question_to, item_of, stepped, place_of, place_y, line_of, edges_of, gap_of, top_margins, bottom_margins, past_through, past_aside, past_hidden}
+use Rattle.steps.specs.Stack.{start_of, question_to, item_of, stepped, place_y, gap_of, top_margins, bottom_margins, past_through, past_aside, past_hidden}
 use Rattle.steps.specs.Height.{step_m}
 use Rattle.steps.specs.Through.{finished}
-use Rattle.steps.specs.Row.{Row, is_laid, hidden_row, aside_row, put_at}
+use Rattle.steps.specs.Row.{Row, is_laid}
 use Rattle.steps.specs.Page.{Node}
 use Rattle.steps.specs.Kept.{zeros_t, zeros_f}
 use Rattle.steps.specs.Layout.{lay_t, lay_f, align_f}
@@ -27,14 +27,14 @@ use Rattle.steps.specs.declared.Cursor.{Cursor}
 use Rattle.steps.proofs.Clauses.{frame_at, style_t, lay_f_none, leaf_rows, block_rows, stack_of, shift_of}
 use Rattle.steps.proofs.Zeros.{no_row_lem}
 use Rattle.laws.specs.Trees.{AllT, AllF}
-use Rattle.sums.specs.Sums.{add_chain, lt_self}
-use Rattle.sums.specs.Zeros.{below_edge}
+use Rattle.sums.specs.Sums.{lt_self}
+use Rattle.sums.proofs.Sums.{add_chain}
 use Rattle.order.specs.Sets.{Up}
 use Rattle.order.specs.Steady.{Steady}
-use Rattle.order.specs.Rows.{bottom_edge, AfterF, InOrderT, InOrderF}
-use Rattle.order.specs.Answers.{answer, child_height, through_zero}
-use Rattle.order.specs.Cursors.{line_past, Good, Sets, item_offset, start_good, hidden_good, aside_good, tops_up, bottoms_up, top_of, step_through, step_box, place_is, own_edge}
-use Rattle.order.specs.Stacks.{NodeOk, root_ok, next_c, gone_tree, out_tree, in_tree, rows-gone, rows_out_lem, rows_in, SetsT, sets_t, next_good, row_of, root_in, row_top, row_bottom, gone_root, out_root, after_unlaid, after_laid}
+use Rattle.order.specs.Rows.{AfterF, InOrderT, InOrderF}
+use Rattle.order.specs.Answers.{answer, child_height}
+use Rattle.order.specs.Cursors.{line_past, Good, item_offset, start_good, hidden_good, aside_good, tops_up, bottoms_up, top_of, step_through, step_box, place_is, own_edge}
+use Rattle.order.specs.Stacks.{NodeOk, root_ok, next_c, gone_tree, out_tree, in_tree, rows-gone, rows_out_lem, rows_in, SetsT, sets_t, next_good, row_of, root_in, row_top, gone_root, out_root, after_unlaid, after_laid}
 use Rattle.order.specs.Through.{Held, held_through, held_start, held_hidden, held_aside, held_by}
 
 -- ---- one child more
@@ -57,7 +57,7 @@ step_held f c i o b u v g p h = go o.through refl
         ∙ add_chain binary32 (top_of f c (top_margins i o)) o.size.height b (add-fits binary32 c.y (gap_of f c (top_margins i o))) p (h (top_margins i o) u))
 
 -- what comes after a box is held at its bottom edge
-edge_held : (f : Frame) (c : Cursor) (i : BlockItem) (o : LayoutOutput) → Up (top_margins i o) → Up (bottom_margins i o) → i.offset.y ≡ zero_f → Good c → Good (stepped f c i o)
+pub edge_held : (f : Frame) (c : Cursor) (i : BlockItem) (o : LayoutOutput) → Up (top_margins i o) → Up (bottom_margins i o) → i.offset.y ≡ zero_f → Good c → Good (stepped f c i o)
     → (o.through ≡ true → (w : Float) → lt w (top_of f c (top_margins i o)) ≡ false → lt w (add binary32 (add binary32 (top_of f c (top_margins i o)) zero_f) o.size.height) ≡ false)
     → Held f (stepped f c i o) (place_y f c i o ⊕ o.size.height)
 edge_held f c i o u v s g n z = go o.through refl
@@ -70,7 +70,7 @@ edge_held f c i o u v s g n z = go o.through refl
 
 -- ---- all that is stacked later
 
-abbrev HeldOf : Forest Node → Type 0
+abbrev pub HeldOf : Forest Node → Type 0
 HeldOf ts = (f : Frame) (c : Cursor) (b : Float) → Good c → Held f c b → AfterF b (lay_f ts f c).rows
 
 held_more : (t : Tree Node) (ts : Forest Node) → NodeOk (root_t t) → SetsT t → HeldOf ts → HeldOf (more t ts)
@@ -91,7 +91,7 @@ held_more t ts n s r f c b g h = go (flow_of (style_t t)) refl
         (ap (λ (z : Float). lt z b) (row_top t f c) ∙ place_held f c i o b u (item_offset f (style_t t) n.1) h)
         (r f (next_c t f c) b m (step_held f c i o b u v m (child_height t f n.1) h)))
 
-held_f : (ts : Forest Node) → AllF NodeOk ts → HeldOf ts
+pub held_f : (ts : Forest Node) → AllF NodeOk ts → HeldOf ts
 unfolding AllT
 held_f none h = λ f c b g k. subst (AfterF b) (sym (ap (λ z. z.rows) (lay_f_none f c))) tt
 held_f (more t ts) h = held_more t ts (root_ok t h.0) (sets_t t h.0) (held_f ts h.1)
@@ -105,52 +105,22 @@ zero_root (node l ks) = no_row_lem
 mutual
   unfolding zeros_t zeros_f map_t
 
-  zeros_t_lem : (t : Tree Node) → InOrderT (zeros_t t)
+  pub zeros_t_lem : (t : Tree Node) → InOrderT (zeros_t t)
   zeros_t_lem (node l ks) = zeros_f_lem ks
 
   zeros_f_lem : (ts : Forest Node) → InOrderF (zeros_f ts)
   zeros_f_lem none = tt
   zeros_f_lem (more t ts) = (λ l. absurd (true≢false (sym l ∙ zero_root t)), zeros_t_lem t, zeros_f_lem ts)
 
-on_root_lem : (g : Row → Row) (u : Tree Row) → InOrderT u → InOrderT (on_root g u)
+pub on_root_lem : (g : Row → Row) (u : Tree Row) → InOrderT u → InOrderT (on_root g u)
 unfolding on_root
 on_root_lem g (node r us) o = o
 
-abbrev RowsT : Tree Node → Type 0
+abbrev pub RowsT : Tree Node → Type 0
 RowsT t = (q : LayoutInput) (found : Float) → InOrderT (lay_t t q found).rows
 
-abbrev RowsF : Forest Node → Type 0
+abbrev pub RowsF : Forest Node → Type 0
 RowsF ts = (f : Frame) (c : Cursor) → Good c → InOrderF (lay_f ts f c).rows
-
--- what is stacked after a child stands not above its bottom edge
-later : (t : Tree Node) (ts : Forest Node) (f : Frame) (c : Cursor) → NodeOk (root_t t) → Sets (answer t f) → HeldOf ts → Good c → AfterF (bottom_edge (row_of t f c)) (lay_f ts f (next_c t f c)).rows
-later t ts f c n k r g =
-    let o = answer t f in
-    let i = item_of f (style_t t) in
-    let u = tops_up f (style_t t) o n.1 k in
-    let v = bottoms_up f (style_t t) o n.1 k in
-    let m = next_good t f c n k g in
-    let z = top_of f c (top_margins i o) in
-    subst (λ (b : Float). AfterF b (lay_f ts f (next_c t f c)).rows) (sym (row_bottom t f c))
-    (r f (next_c t f c) (place_y f c i o ⊕ o.size.height) m
-    (edge_held f c i o u v (item_offset f (style_t t) n.1) g m (λ e w. below_edge w z o.size.height (add-fits binary32 c.y (gap_of f c (top_margins i o))) (through_zero t f e))))
-
-order_more : (t : Tree Node) (ts : Forest Node) → NodeOk (root_t t) → SetsT t → RowsT t → HeldOf ts → RowsF ts → RowsF (more t ts)
-order_more t ts n s d a r f c g = go (flow_of (style_t t)) refl
-  where
-    go : (w : Flow) → flow_of (style_t t) ≡ w → InOrderF (lay_f (more t ts) f c).rows
-    go Gone e =
-        subst InOrderF (sym (rows-gone t ts f c e)) (λ l. absurd (true≢false (sym l ∙ gone_root t c)), on_root_lem (λ _. hidden_row c.count) (zeros_t t) (zeros_t_lem t), r f (past_hidden c) (hidden_good c g))
-    go Out e =
-        subst InOrderF (sym (rows_out_lem t ts f c e))
-        (λ l. absurd (true≢false (sym l ∙ out_root t f c)), on_root_lem (λ _. aside_row (edges_of f).start (line_of f c) (edges_of f).end c.shown.0) (zeros_t t) (zeros_t_lem t), r f (past_aside c) (aside_good c g))
-    go In e =
-        let k = s (question_to f (style_t t)) zero_f in
-        subst InOrderF (sym (rows_in t ts f c n e)) (
-          λ x. subst (λ (z : Row). AfterF (bottom_edge z) (lay_f ts f (next_c t f c)).rows) (sym (root_in t f c)) (later t ts f c n k a g),
-          on_root_lem (put_at (place_of f c (item_of f (style_t t)) (answer t f)) c.shown.0) (lay_t t (question_to f (style_t t)) zero_f).rows (d (question_to f (style_t t)) zero_f),
-          r f (next_c t f c) (next_good t f c n k g),
-        )
 
 -- step M moves nothing
 align_same : (d : OptionF32) (us : Forest Row) → d ≡ None → align_f d us ≡ us
@@ -162,7 +132,7 @@ shift_none : (l : Node) (q : LayoutInput) (found : Float) (c : Cursor) → Stead
 unfolding finished step_m
 shift_none l q found c h = h.shift _
 
-order_node : (l : Node) (ks : Forest Node) → NodeOk l → RowsF ks → RowsT (node l ks)
+pub order_node : (l : Node) (ks : Forest Node) → NodeOk l → RowsF ks → RowsT (node l ks)
 order_node l ks n r q found = go (is_leaf l.site.style.kind) refl
   where
     go : (b : Bool) → is_leaf l.site.style.kind ≡ b → InOrderT (lay_t (node l ks) q found).rows
@@ -171,13 +141,3 @@ order_node l ks n r q found = go (is_leaf l.site.style.kind) refl
         subst InOrderT (sym (block_rows l ks q found e))
         (subst InOrderF (sym (align_same (shift_of l q found (stack_of l ks q found).last) (stack_of l ks q found).rows (shift_none l q found (stack_of l ks q found).last n.1)))
         (r (frame_at l q found) (start_of (frame_at l q found)) (start_good l.site.style q found)))
-
-mutual
-  unfolding AllT
-
-  pub order_t : (t : Tree Node) → AllT NodeOk t → RowsT t
-  order_t (node l ks) h = order_node l ks h.0 (order_f ks h.1)
-
-  order_f : (ts : Forest Node) → AllF NodeOk ts → RowsF ts
-  order_f none h = λ f c g. subst InOrderF (sym (ap (λ z. z.rows) (lay_f_none f c))) tt
-  order_f (more t ts) h = order_more t ts (root_ok t h.0) (sets_t t h.0) (order_t t h.0) (held_f ts h.1) (order_f ts h.1)

@@ -13,7 +13,8 @@ use Rattle.util.specs.declared.OptionF32.{OptionF32}
 use Rattle.steps.specs.Stack.{gap_of, at_top, past_through, past_aside, past_hidden}
 use Rattle.steps.specs.declared.Frame.{Frame}
 use Rattle.steps.specs.declared.Cursor.{Cursor}
-use Rattle.sums.specs.Sums.{Pos, lt_self, add_chain}
+use Rattle.sums.specs.Sums.{Pos, lt_self}
+use Rattle.sums.proofs.Sums.{add_chain}
 use Rattle.sums.specs.Mono.{add_mono}
 use Rattle.order.specs.Sets.{Up, joined_up, plus_pos, pos_plus}
 use Rattle.order.specs.Cursors.{Good, top_of, gap_up}

@@ -15,7 +15,7 @@ use Rattle.claims.specs.Claims.{relayout_is_layout}
 use Rattle.claims.specs.EveryCall.{Left, by_layout, by_layout_records, by_layout_from_c, by_relayout, by_relayout_records, by_relayout_from_c, left_calls}
 use Rattle.order.specs.Class.{keeps_order}
 use Rattle.order.specs.Rows.{RowsInOrder}
-use Rattle.order.specs.Accepted.{layout-keeps-order}
+use Rattle.order.proofs.Accepted.{layout-keeps-order}
 
 -- a relayout that passes the tests has the result of a layout
 calls_keep_order : (ws : List ℕ) (xs : List Float) (q : LayoutInput) (rs : List Float) (ms : List ℕ) → Calls ws xs q rs ms → keeps_order ws xs ≡ true → RowsInOrder ws rs ms

@@ -15,7 +15,8 @@ use mir.Val.{SFits, to_z, of_z}
 use mir.ValLaws.{to_z-of_z}
 use borrow.Author.Tests.{ltb-true}
 use Rattle.pixel.specs.Pixel.{whole_pixel}
-use Rattle.pixel.specs.Value.{Edge, pixel_in}
+use Rattle.pixel.specs.Value.{Edge}
+use Rattle.pixel.proofs.Value.{pixel_in}
 
 -- ---- sizes of sums
 

@@ -1,9 +1,9 @@
 -- Floors of halves: what a shift of the digits gives. Assumes nothing.
 use Rattle.std.specs.Prelude.{◌≡◌, refl, Bool, true, false, cond, ℕ, zero, suc, ◌+◌, ◌*◌, ◌-◌, ◌/◌, ◌%◌, ◌^◌, ◌<◌, ◌≤◌, ltb, pos, negsuc, neg_ℤ, ◌+ℤ◌}
 use Rattle.std.proofs.Common.{sym, ap, ◌∙◌, subst, mul_assoc, mul_comm, add-mul, suc-mul, one-mul, mod-eq_of_lt, arith, pow_pos, pow-add, pow_mono, ltb-true, ltb-false}
-use Rattle.std.proofs.Math.Nat.{mul-div-mul_right, div-div-eq-div-mul, div-eq_of_lt-le, div-eq_of_lt, add-div_right, sub-zero, pow-succ', div-le_of_le-mul}
+use Rattle.std.proofs.Math.Nat.{mul-div-mul_right, div-div-eq-div-mul, div-eq_of_lt-le, div-eq_of_lt, add-div_right, pow-succ', div-le_of_le-mul}
 use Rattle.std.specs.Int.Signed.{shr_z}
-use Rattle.pixel.specs.Pixel.{signed, halves_up}
+use Rattle.pixel.specs.Pixel.{halves_up}
 
 gather : (q K D : ℕ) → q * K + q * K + D * K ≡ (2 * q + D) * K
 gather q K D =
@@ -12,7 +12,7 @@ gather q K D =
     omega (arith, a, b)
 
 -- a common factor K goes
-up_floor : (q K D H : ℕ) → 0 < K → H ≡ D * K → (q * K + q * K + H) / (2 * H) ≡ (2 * q + D) / (2 * D)
+pub up_floor : (q K D H : ℕ) → 0 < K → H ≡ D * K → (q * K + q * K + H) / (2 * H) ≡ (2 * q + D) / (2 * D)
 up_floor q K D H p e =
     ap (λ (h : ℕ). (q * K + q * K + h) / (2 * h)) e
     ∙ ap (λ (a : ℕ). a / (2 * (D * K))) (gather q K D)
@@ -30,7 +30,7 @@ less_floor : (Y K W : ℕ) → 0 < Y → 0 < K → (Y * K - 1) / (K * W) ≡ (Y 
 less_floor zero K W h p = elim h [ ]
 less_floor (suc y) K W h p = sym (div-div-eq-div-mul (suc y * K - 1) K W) ∙ ap (λ (a : ℕ). a / W) (one_less y K p ∙ omega arith)
 
-down_floor : (q K D H : ℕ) → 0 < K → 0 < D → H ≡ D * K → (q * K + q * K + H - 1) / (2 * H) ≡ (2 * q + D - 1) / (2 * D)
+pub down_floor : (q K D H : ℕ) → 0 < K → 0 < D → H ≡ D * K → (q * K + q * K + H - 1) / (2 * H) ≡ (2 * q + D - 1) / (2 * D)
 down_floor q K D H p d e =
     ap (λ (h : ℕ). (q * K + q * K + h - 1) / (2 * h)) e
     ∙ ap (λ (a : ℕ). (a - 1) / (2 * (D * K))) (gather q K D)
@@ -69,44 +69,26 @@ unfolding halves_up
 under_zero M = neg_floor M (2 ^ 149) (pow_pos 149)
 
 -- `omega` stops at a number of more than 38 digits: H stands for 2 ^ 149
-small_up : (M H : ℕ) → M + M < H → (M + M + H) / (2 * H) ≡ 0
+pub small_up : (M H : ℕ) → M + M < H → (M + M + H) / (2 * H) ≡ 0
 small_up M H h = none (M + M + H) (2 * H) (omega arith)
 
-small_down : (M H : ℕ) → M + M < H → (M + M + H - 1) / (2 * H) ≡ 0
+pub small_down : (M H : ℕ) → M + M < H → (M + M + H - 1) / (2 * H) ≡ 0
 small_down M H h = none (M + M + H - 1) (2 * H) (omega arith)
-
--- below a half in size: 0
-pub tiny : (s : Bool) (M : ℕ) → M + M < 2 ^ 149 → halves_up (signed s M) ≡ pos 0
-tiny false M h = above_zero M ∙ ap pos (small_up M (2 ^ 149) h)
-tiny true M h = under_zero M ∙ ap (λ (n : ℕ). neg_ℤ (pos n)) (small_down M (2 ^ 149) h)
 
 -- ---- digits q that stand k places above the last, d below the point
 
-half_is : (k d : ℕ) → k + d ≡ 149 → 2 ^ 149 ≡ 2 ^ d * 2 ^ k
+pub half_is : (k d : ℕ) → k + d ≡ 149 → 2 ^ 149 ≡ 2 ^ d * 2 ^ k
 half_is k d e = ap (λ (n : ℕ). 2 ^ n) (sym e) ∙ pow-add 2 k d ∙ mul_comm (2 ^ k) (2 ^ d)
 
 -- what the code works out: s is 1 for a number below zero, and moves a half toward zero
 abbrev pub shifted : ℕ → ℕ → ℕ → ℕ
 shifted q d s = (2 * q + 2 ^ d - s) / 2 ^ (d + 1)
 
-next : (d : ℕ) → 2 ^ (d + 1) ≡ 2 * 2 ^ d
+pub next : (d : ℕ) → 2 ^ (d + 1) ≡ 2 * 2 ^ d
 next d = ap (λ (n : ℕ). 2 ^ n) (add-one d) ∙ pow-succ' 2 d
   where
     add-one : (n : ℕ) → n + 1 ≡ suc n
     add-one n = omega arith
-
-pub shift_up : (q k d : ℕ) → k + d ≡ 149 → halves_up (pos (q * 2 ^ k)) ≡ pos (shifted q d 0)
-shift_up q k d e =
-    above_zero (q * 2 ^ k)
-    ∙ ap pos (up_floor q (2 ^ k) (2 ^ d) (2 ^ 149) (pow_pos k) (half_is k d e)
-    ∙ ap (λ (n : ℕ). (2 * q + 2 ^ d) / n) (sym (next d))
-    ∙ ap (λ (n : ℕ). n / 2 ^ (d + 1)) (sym (sub-zero (2 * q + 2 ^ d))))
-
-pub shift_down : (q k d : ℕ) → k + d ≡ 149 → halves_up (neg_ℤ (pos (q * 2 ^ k))) ≡ neg_ℤ (pos (shifted q d 1))
-shift_down q k d e =
-    under_zero (q * 2 ^ k)
-    ∙ ap (λ (n : ℕ). neg_ℤ (pos n)) (down_floor q (2 ^ k) (2 ^ d) (2 ^ 149) (pow_pos k) (pow_pos d) (half_is k d e)
-    ∙ ap (λ (n : ℕ). (2 * q + 2 ^ d - 1) / n) (sym (next d)))
 
 -- ---- the code's own numbers
 

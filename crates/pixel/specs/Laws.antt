@@ -1,12 +1,10 @@
 -- What the nearest whole pixel promises. Assumes nothing.
-use Rattle.std.specs.Prelude.{◌≡◌, refl, Bool, true, false, ◌||◌, cond, ℕ, zero, suc, ◌+◌, ◌*◌, ◌-◌, ◌/◌, ◌^◌, ◌<◌, ◌≤◌, T, ltb, eqb, ℤ, pos, negsuc, neg_ℤ, ◌+ℤ◌, ◌-ℤ◌, ◌*ℤ◌, ◌≤ℤ◌, Float}
-use Rattle.std.proofs.Common.{sym, ap, ◌∙◌, subst, true≢false, zero-add, zero-mul, add-mul, mul_assoc, mul_comm, mul_left_comm, mul_right_comm, mul-pos, mul-div_cancel, mul-le-mul_right, mul-lt-mul_of_pos_right, div-mul-le_self, le_of_lt, arith, le→leb, lt→ltb, leb→le, pow_pos, ltb-true, ltb-false, lt-ltb, le-ltb, eqb-true}
+use Rattle.std.specs.Prelude.{◌≡◌, refl, Bool, true, false, ◌||◌, cond, ℕ, zero, suc, ◌+◌, ◌*◌, ◌-◌, ◌/◌, ◌^◌, ◌<◌, ◌≤◌, T, ltb, eqb, ℤ, pos, negsuc, neg_ℤ, ◌-ℤ◌, ◌*ℤ◌, Float}
+use Rattle.std.proofs.Common.{sym, ap, ◌∙◌, subst, true≢false, zero-add, zero-mul, add-mul, mul_assoc, mul_comm, mul_right_comm, mul-pos, mul-div_cancel, mul-le-mul_right, mul-lt-mul_of_pos_right, le_of_lt, arith, le→leb, lt→ltb, leb→le, pow_pos, ltb-true, ltb-false, lt-ltb, le-ltb, eqb-true}
 use Rattle.std.specs.Bool.{beq}
-use Rattle.std.proofs.Math.Nat.{eq_of_mul-eq-mul_right, lt-div-mul-add, zero-div}
+use Rattle.std.proofs.Math.Nat.{eq_of_mul-eq-mul_right, zero-div}
 use Rattle.std.proofs.Math.Dec.{leb-suc-suc}
-use Rattle.std.proofs.Math.IntN.{+ℤ_comm, -ℤ-+ℤ_cancel}
-use Rattle.std.specs.Int.Signed.{lt_z, le_z, ≤ℤ_refl, le_z_yes, lt_z_yes}
-use Rattle.std.proofs.Math.Pow.{shr_mono}
+use Rattle.std.specs.Int.Signed.{lt_z, le_z, le_z_yes, lt_z_yes}
 use Rattle.std.specs.Float.{nan, inf, fin, binary32}
 use Rattle.std.specs.Float.Ieee.{up, down, below, lt, eq, le, fits, to_bits}
 use Rattle.std.specs.Float.Ieee.Nearest.{div_same, div_mono}
@@ -14,7 +12,6 @@ use Rattle.std.specs.Float.Ieee.Fits.{down_pos}
 use Rattle.limits.specs.Bools.{and_fst, and_snd}
 use Rattle.limits.specs.Limits.{finite}
 use Rattle.pixel.specs.Pixel.{size_of, signed, scaled, halves_up, whole_pixel, Near}
-use Rattle.pixel.specs.Floor.{above_zero, under_zero}
 use Rattle.pixel.specs.Value.{field, digits, bulk, value}
 
 -- ---- the scaled number is exact
@@ -127,13 +124,13 @@ equal_alike x y q = ap halves_up (scaled_eq x y q)
 
 -- ---- a greater edge has no lesser pixel
 
-double : (M N H : ℕ) → M ≤ N → M + M + H ≤ N + N + H
+pub double : (M N H : ℕ) → M ≤ N → M + M + H ≤ N + N + H
 double M N H h = omega arith
 
-double_less : (M N H : ℕ) → M ≤ N → M + M + H - 1 ≤ N + N + H - 1
+pub double_less : (M N H : ℕ) → M ≤ N → M + M + H - 1 ≤ N + N + H - 1
 double_less M N H h = omega arith
 
-neg_le : (a b : ℕ) → b ≤ a → T (le_z (neg_ℤ (pos a)) (neg_ℤ (pos b)))
+pub neg_le : (a b : ℕ) → b ≤ a → T (le_z (neg_ℤ (pos a)) (neg_ℤ (pos b)))
 neg_le zero zero h = tt
 neg_le zero (suc b) h = absurd (no h)
   where
@@ -142,22 +139,12 @@ neg_le zero (suc b) h = absurd (no h)
 neg_le (suc a) zero h = tt
 neg_le (suc a) (suc b) h = le→leb b a (omega arith)
 
-neg_pos : (a b : ℕ) → T (le_z (neg_ℤ (pos a)) (pos b))
+pub neg_pos : (a b : ℕ) → T (le_z (neg_ℤ (pos a)) (pos b))
 neg_pos zero b = le→leb 0 b (omega arith)
 neg_pos (suc a) b = tt
 
-two_le : {a b c d : ℤ} → a ≡ c → b ≡ d → T (le_z c d) → T (le_z a b)
+pub two_le : {a b c d : ℤ} → a ≡ c → b ≡ d → T (le_z c d) → T (le_z a b)
 two_le {a} {b} {c} {d} p q h = subst (λ (z : ℤ). T (le_z z b)) (sym p) (subst (λ (z : ℤ). T (le_z c z)) (sym q) h)
-
-halves_mono : (E F : ℤ) → T (le_z E F) → T (le_z (halves_up E) (halves_up F))
-halves_mono (pos M) (pos N) h = two_le (above_zero M) (above_zero N) (le→leb ((M + M + 2 ^ 149) / (2 * 2 ^ 149)) ((N + N + 2 ^ 149) / (2 * 2 ^ 149)) (shr_mono 150 (double M N (2 ^ 149) (leb→le M N h))))
-halves_mono (pos M) (negsuc b) h = absurd h
-halves_mono (negsuc a) (pos N) h = two_le (under_zero (suc a)) (above_zero N) (neg_pos ((suc a + suc a + 2 ^ 149 - 1) / (2 * 2 ^ 149)) ((N + N + 2 ^ 149) / (2 * 2 ^ 149)))
-halves_mono (negsuc a) (negsuc b) h =
-    two_le (under_zero (suc a)) (under_zero (suc b)) (neg_le ((suc a + suc a + 2 ^ 149 - 1) / (2 * 2 ^ 149)) ((suc b + suc b + 2 ^ 149 - 1) / (2 * 2 ^ 149)) (shr_mono 150 (double_less (suc b) (suc a) (2 ^ 149) (up_one b a (leb→le b a h)))))
-  where
-    up_one : (i j : ℕ) → i ≤ j → suc i ≤ suc j
-    up_one i j l = omega arith
 
 -- a lesser number has no greater scaled number
 size_mono : (a b c d P : ℕ) → 0 < b → 0 < d → a * d < c * b → a * P / b ≤ c * P / d
@@ -172,7 +159,7 @@ below_le false a b true c d P h k e = absurd (true≢false (sym e))
 below_le true a b false c d P h k e = neg_pos (a * P / b) (c * P / d)
 below_le true a b true c d P h k e = neg_le (a * P / b) (c * P / d) (size_mono c d a b P k h (ltb-true (c * b) (a * d) e))
 
-lt_le : (x y : Float) → finite x ≡ true → finite y ≡ true → lt x y ≡ true → T (le_z (scaled x) (scaled y))
+pub lt_le : (x y : Float) → finite x ≡ true → finite y ≡ true → lt x y ≡ true → T (le_z (scaled x) (scaled y))
 unfolding lt scaled size_of
 lt_le nan y f i e = absurd (true≢false (sym f))
 lt_le (inf s) y f i e = absurd (true≢false (sym f))
@@ -180,17 +167,9 @@ lt_le (fin s m g) nan f i e = absurd (true≢false (sym i))
 lt_le (fin s m g) (inf t) f i e = absurd (true≢false (sym i))
 lt_le (fin s m g) (fin t n d) f i e = below_le s (m * up g) (down g) t (n * up d) (down d) (2 ^ 149) (down_pos g) (down_pos d) e
 
-or_of : (a b : Bool) {X : Type 0} → (a ≡ true → X) → (b ≡ true → X) → (a || b) ≡ true → X
+pub or_of : (a b : Bool) {X : Type 0} → (a ≡ true → X) → (b ≡ true → X) → (a || b) ≡ true → X
 or_of true b f g e = f refl
 or_of false b f g e = g e
-
-pub monotone : (x y : Float) → finite x ≡ true → finite y ≡ true → le x y ≡ true → whole_pixel x ≤ℤ whole_pixel y
-unfolding le whole_pixel
-monotone x y f i q =
-    or_of (lt x y) (eq x y)
-    (λ l. le_z_yes (halves_mono (scaled x) (scaled y) (lt_le x y f i l)))
-    (λ e. subst (λ (z : ℤ). halves_up (scaled x) ≤ℤ halves_up z) (scaled_eq x y e) (≤ℤ_refl (halves_up (scaled x))))
-    q
 
 -- ---- the distance is at most a half: -H < 2 D ≤ H, where D is the whole pixel less the edge
 
@@ -212,7 +191,7 @@ minus a zero = sym (ap (λ (t : Bool). cond t (negsuc (0 - suc a)) (pos (a - 0))
     same n = omega arith
 minus a (suc b) = refl
 
-near_of : (a b H : ℕ) → 2 * a ≤ 2 * b + H → 2 * b < 2 * a + H → Near (pos a -ℤ pos b) H
+pub near_of : (a b H : ℕ) → 2 * a ≤ 2 * b + H → 2 * b < 2 * a + H → Near (pos a -ℤ pos b) H
 near_of a b H h k = subst (λ (z : ℤ). Near z H) (sym (minus a b)) (go (ltb a b) refl)
   where
     go : (t : Bool) → ltb a b ≡ t → Near (cond t (negsuc (b - suc a)) (pos (a - b))) H
@@ -225,55 +204,13 @@ near_of a b H h k = subst (λ (z : ℤ). Near z H) (sym (minus a b)) (go (ltb a 
         let y = a - b in
         (lt_z_yes (low_pos H (y + y) (omega arith)), le_z_yes (le→leb (y + y) H (omega arith)))
 
--- the quotient's bounds, for either sign
-near_up : (M H : ℕ) → 0 < H → Near (pos ((M + M + H) / (2 * H) * H) -ℤ pos M) H
-near_up M H h =
-    let n = (M + M + H) / (2 * H) in
-    let m : n * (2 * H) ≡ 2 * (n * H) = mul_left_comm n 2 H in
-    let lo : n * (2 * H) ≤ M + M + H = div-mul-le_self (M + M + H) (2 * H) in
-    let hi : M + M + H < n * (2 * H) + 2 * H = lt-div-mul-add (twice H h) in
-    near_of (n * H) M H (omega arith) (omega arith)
-  where
-    twice : (H : ℕ) → 0 < H → 0 < 2 * H
-    twice H h = omega arith
-
-near_down : (M H : ℕ) → 0 < H → Near (pos M -ℤ pos ((M + M + H - 1) / (2 * H) * H)) H
-near_down M H h =
-    let n = (M + M + H - 1) / (2 * H) in
-    let m : n * (2 * H) ≡ 2 * (n * H) = mul_left_comm n 2 H in
-    let lo : n * (2 * H) ≤ M + M + H - 1 = div-mul-le_self (M + M + H - 1) (2 * H) in
-    let hi : M + M + H - 1 < n * (2 * H) + 2 * H = lt-div-mul-add (twice H h) in
-    near_of M (n * H) H (omega arith) (omega arith)
-  where
-    twice : (H : ℕ) → 0 < H → 0 < 2 * H
-    twice H h = omega arith
-
-times : (n H : ℕ) → neg_ℤ (pos n) *ℤ pos H ≡ neg_ℤ (pos (n * H))
+pub times : (n H : ℕ) → neg_ℤ (pos n) *ℤ pos H ≡ neg_ℤ (pos (n * H))
 times zero H = ap pos (zero-mul H) ∙ ap (λ (k : ℕ). neg_ℤ (pos k)) (sym (zero-mul H))
 times (suc n) H = refl
 
-halves_near : (E : ℤ) → Near (halves_up E *ℤ pos (2 ^ 149) -ℤ E) (2 ^ 149)
-halves_near (pos M) = subst (λ (z : ℤ). Near (z *ℤ pos (2 ^ 149) -ℤ pos M) (2 ^ 149)) (sym (above_zero M)) (near_up M (2 ^ 149) (pow_pos 149))
-halves_near (negsuc a) =
-    let n = (suc a + suc a + 2 ^ 149 - 1) / (2 * 2 ^ 149) in
-    subst (λ (z : ℤ). Near z (2 ^ 149))
-    (sym (ap (λ (z : ℤ). z *ℤ pos (2 ^ 149) +ℤ pos (suc a)) (under_zero (suc a))
-    ∙ ap (λ (z : ℤ). z +ℤ pos (suc a)) (times n (2 ^ 149))
-    ∙ +ℤ_comm (neg_ℤ (pos (n * 2 ^ 149))) (pos (suc a))))
-    (near_down (suc a) (2 ^ 149) (pow_pos 149))
-
-pub near : (x : Float) → Near (whole_pixel x *ℤ pos (2 ^ 149) -ℤ scaled x) (2 ^ 149)
-unfolding whole_pixel
-near x = halves_near (scaled x)
-
--- ---- a box whose far edge is another's near edge ends where that one begins, on the panel too
-
-pub common_edge : (near far next : Float) → eq far next ≡ true → whole_pixel far -ℤ whole_pixel near +ℤ whole_pixel near ≡ whole_pixel next
-common_edge near far next q = -ℤ-+ℤ_cancel (whole_pixel far) (whole_pixel near) ∙ equal_alike far next q
-
 -- ---- a far edge that is not below the near one leaves no negative size
 
-sub_of_le : (a b : ℤ) → T (le_z a b) → T (le_z (pos 0) (b -ℤ a))
+pub sub_of_le : (a b : ℤ) → T (le_z a b) → T (le_z (pos 0) (b -ℤ a))
 sub_of_le (pos a) (pos b) h = subst (λ (z : ℤ). T (le_z (pos 0) z)) (sym (minus b a)) (subst (λ (t : Bool). T (le_z (pos 0) (cond t (negsuc (a - suc b)) (pos (b - a))))) (sym (le-ltb b a (leb→le a b h))) (le→leb 0 (b - a) (omega arith)))
 sub_of_le (pos a) (negsuc b) h = absurd h
 sub_of_le (negsuc a) (pos b) h = le→leb 0 (b + suc a) (omega arith)
@@ -283,6 +220,3 @@ sub_of_le (negsuc a) (negsuc b) h =
   where
     up_one : (i j : ℕ) → i ≤ j → suc i ≤ suc j
     up_one i j l = omega arith
-
-pub size_not_negative : (near far : Float) → finite near ≡ true → finite far ≡ true → le near far ≡ true → pos 0 ≤ℤ (whole_pixel far -ℤ whole_pixel near)
-size_not_negative near far f i q = le_z_yes (sub_of_le (whole_pixel near) (whole_pixel far) (monotone near far f i q).le)

@@ -3,4 +3,3 @@ pub mod Worked
 pub mod Floor
 pub mod Value
 pub mod Laws
-pub mod Sizes

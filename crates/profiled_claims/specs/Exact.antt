@@ -18,7 +18,8 @@ use Rattle.tables.proofs.Exactly.{size-exactly, layout-exactly, relayout-exactly
 use Rattle.laws.specs.Tables.{SameShape, Named, Calls}
 use Rattle.laws.specs.Answers.{relayout_layout}
 use Rattle.profile.specs.Profile.{profile_spot}
-use Rattle.exact.specs.OnTables.{rows_z, ExactReply, layout_is_exact, size_question_is_exact}
+use Rattle.exact.specs.OnTables.{rows_z, ExactReply}
+use Rattle.exact.proofs.OnTables.{layout_is_exact, size_question_is_exact}
 use Rattle.exact_claims.specs.Relayout.{relayout_is_exact}
 use Rattle.tables.specs.Early.{early_tested}
 use Rattle.profiled.specs.Profiled.{ProfileReply, profiled_layout_result, profiled_relayout_result, profiled_size_result}

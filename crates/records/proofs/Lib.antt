@@ -5,6 +5,4 @@ pub mod Cut
 pub mod Decode
 pub mod Within
 pub mod Finish
-pub mod Lent
-pub mod Puts
 pub mod EnoughOrFew

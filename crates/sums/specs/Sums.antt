@@ -276,16 +276,8 @@ add_not_less f (fin s m e) (fin r n d) t h = go r h
         subst (λ (z : ℕ). lt (sum f s (m * up e * down d) true z (down e * down d)) (fin s m e) ≡ false) (sym (size_none n d (down e) h))
         (subst (λ (z : Float). lt z (fin s m e) ≡ false) (sym (sum-none f (fin s m e) (down e * down d) (mul-pos (down_pos e) (down_pos d)) s (m * up e * down d))) own)
 
-nan_add : (f : Format) (x y z : Float) → is_nan x ≡ true → lt (add f x y) z ≡ false
+pub nan_add : (f : Format) (x y z : Float) → is_nan x ≡ true → lt (add f x y) z ≡ false
 unfolding is_nan add lt
 nan_add f nan y z e = refl
 nan_add f (inf s) y z e = absurd (false≢true e)
 nan_add f (fin s m d) y z e = absurd (false≢true e)
-
--- whatever x is not less than; through a NaN too
-pub add_chain : (f : Format) (x y z : Float) → T (fits f x) → lt y zero_f ≡ false → lt x z ≡ false → lt (add f x y) z ≡ false
-add_chain f x y z t h g = go (is_nan x) refl
-  where
-    go : (b : Bool) → is_nan x ≡ b → lt (add f x y) z ≡ false
-    go true e = nan_add f x y z e
-    go false e = lt_none (add f x y) x z e (add_not_less f x y t h) g

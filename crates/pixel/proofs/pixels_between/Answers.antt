@@ -6,7 +6,8 @@ use mir.Val.{SFits, to_z, of_z}
 use mir.ValLaws.{to_z-of_z}
 use borrow.Author.Rules.{rules}
 use Rattle.pixel.specs.Pixel.{whole_pixel}
-use Rattle.pixel.specs.Value.{Edge, pixel_in}
+use Rattle.pixel.specs.Value.{Edge}
+use Rattle.pixel.proofs.Value.{pixel_in}
 use Rattle.pixel.proofs.Ranges.{sub_fits, read_back_lem}
 use Rattle.pixel.proofs.pixels_between.Goals as goal
 

@@ -10,7 +10,8 @@ use mir.Val.{SFits, to_z}
 use mir.ValLaws.{to_z_pos, to_z-of_z}
 use borrow.Author.Rules.{rules}
 use Rattle.limits.specs.Laws.{small_finite}
-use Rattle.pixel.specs.Value.{Edge, no_nan, field_in, under_half, answer_up, answer_down}
+use Rattle.pixel.specs.Value.{Edge, no_nan, field_in}
+use Rattle.pixel.proofs.Value.{under_half, answer_up, answer_down}
 use Rattle.pixel.proofs.whole_pixel.Goals as goal
 
 -- ---- 0 - n as an i32

@@ -1,0 +1,4 @@
+pub mod Others
+pub mod OnTables
+pub mod Origins
+pub mod Found

@@ -1,0 +1,14 @@
+pub mod Class
+pub mod Collect
+pub mod Computes
+pub mod Engine
+pub mod Fresh
+pub mod Linked
+pub mod Links
+pub mod OnTables
+pub mod Page
+pub mod Pairs
+pub mod Real
+pub mod Rows
+pub mod Theorem
+pub mod Worked

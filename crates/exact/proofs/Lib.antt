@@ -1,0 +1,10 @@
+pub mod Boxes
+pub mod Frames
+pub mod OnTables
+pub mod LayoutLaws
+pub mod Sizes
+pub mod Heights
+pub mod Fresh
+pub mod FreshExact
+pub mod Widths
+pub mod Probes

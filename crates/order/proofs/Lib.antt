@@ -1,0 +1,4 @@
+pub mod Accepted
+pub mod Fresh
+pub mod InOrder
+pub mod Steady
