@@ -15,7 +15,7 @@ use Rattle.text.proofs.piece_end.Reads as piece-end-reads
 use Rattle.replays.proofs.replay_cut.Goals as goal
 
 pub put_rows-requires : goal.put_rows-requires
-put_rows-requires c = omega (arith, c.requires.0)
+put_rows-requires c = omega (arith, c.requires.few)
 
 pub returns : goal.returns
 returns c = let a = c.args in

@@ -17,7 +17,7 @@ pub slice_bounds-replay_text-end : goal.slice_bounds-replay_text-end
 slice_bounds-replay_text-end c = rw (length-take c.smaller-end.result c.args.text.now) (omega (arith, c.smaller-end.ensures))
 
 pub replay_text-requires : goal.replay_text-requires
-replay_text-requires c = (rw (length-take c.smaller-end.result c.args.text.now) (omega (arith, c.smaller-end.ensures)), c.requires)
+replay_text-requires c = record { short = rw (length-take c.smaller-end.result c.args.text.now) (omega (arith, c.smaller-end.ensures)); fits = c.requires }
 
 pub returns : goal.returns
 unfolding trace_events
