@@ -7,7 +7,7 @@
 BEGIN {
     kind["call"] = kind["store"] = kind["br"] = kind["ret"] = kind["switch"] = kind["unreachable"] = "void"
     n = split("add alloca and bitcast call fadd fcmp fdiv fmul fneg fsub getelementptr icmp load lshr mul or shl " \
-              "sub trunc udiv urem xor zext", ops, " ")
+              "sub trunc udiv urem xor zext extractvalue", ops, " ")
     for (k = 1; k <= n; k++) value[ops[k]] = 1
     # What include/mearrasot.h declares; 's' is a pointer and its count of 64 bits.
     want["mearrasot_layout"] = "s s s s s s float float float float i32"
@@ -27,6 +27,8 @@ function stop(why) {
 /^target datalayout = / {
     if ($0 != "target datalayout = \"e-m:e-p270:32:32-p271:32:32-p272:64:64-i64:64-i128:128-f80:128-n8:16:32:64-S128\"")
         stop("another data layout")
+    # A pair with a word of 64 bits lies in memory as it does on x86-64.
+    if (layout !~ /-i64:64(-|$)/) stop("a target that aligns 64 bits in another way")
     print "target datalayout = \"" layout "\""
     changed++
     next
@@ -44,8 +46,10 @@ function stop(why) {
     changed++
     next
 }
-/^attributes #[12] = / {
-    if ($0 !~ /^attributes #[12] = \{ nocallback nofree nounwind willreturn memory\(argmem: (readwrite|write)\) \}$/) stop("other attributes")
+/^attributes #[1-9] = / {
+    # Of the few functions of LLVM that are declared below.
+    if ($0 !~ /^attributes #[1-9] = \{ ((nocallback|nocreateundeforpoison|nofree|nosync|nounwind|speculatable|willreturn) )+memory\((none|argmem: (readwrite|write))\) \}$/)
+        stop("other attributes")
     print
     next
 }
@@ -80,7 +84,8 @@ function stop(why) {
     next
 }
 /^declare / {
-    if ($0 !~ /^declare void @llvm\.(memmove\.p0\.p0|memset\.p0)\.i64\(/) stop("an unknown declaration")
+    if ($0 !~ /^declare void @llvm\.(memmove\.p0\.p0|memset\.p0)\.i64\(/ && $0 !~ /^declare float @llvm\.arithmetic\.fence\.f32\(float\) /)
+        stop("an unknown declaration")
     print
     next
 }
@@ -90,6 +95,8 @@ function stop(why) {
         if (!(op in value)) stop("an unknown instruction")
         if (op ~ /^f/ && $4 != "float" && !(op == "fcmp" && $5 == "float")) stop("a floating-point operation with a flag")
         if (op == "getelementptr" && $0 !~ / = getelementptr (inbounds nuw )?i8, ptr /) stop("an address that depends on a type")
+        if (op == "extractvalue" && $0 !~ / = extractvalue \{ (i8|i32|float), (i8|i32|i64|float) \} %r[0-9]+, [01]$/) stop("an unknown pair")
+        if ($0 ~ /@llvm\./ && $0 !~ / = call float @llvm\.arithmetic\.fence\.f32\(float [^ ,()]+\)$/) stop("an unknown call of LLVM")
         if (op == "bitcast" && $4 != "float" && $4 != "i32") stop("an unknown conversion")
         instructions++
     } else if ($1 in kind) {
