@@ -28,7 +28,8 @@ use Rattle.records.specs.declared.Record.{Record}
 use Rattle.records.proofs.EnoughOrFew.{Scarce, layout_as_plain, relayout_as_plain, layout-enough, relayout-enough, layout-few, relayout-few}
 use Rattle.outcomes.specs.Layout.{LayoutGiven}
 use Rattle.outcomes.specs.Relayout.{RelayoutGiven}
-use Rattle.outcomes.specs.Records.{GivenIn, layout-records-gives, relayout-records-gives}
+use Rattle.outcomes.specs.Records.{GivenIn}
+use Rattle.outcomes.proofs.Records.{layout-records-gives, relayout-records-gives}
 use Rattle.claims.specs.Discharged.{checks}
 use Rattle.claims.specs.Claims.{relayout_is_layout}
 use Rattle.claims.specs.AtExit.{Alike, one_reply}

@@ -15,8 +15,8 @@ use Rattle.laws.specs.Answers.{relayout_accepted}
 use Rattle.tables.proofs.Exactly.{relayout-exactly}
 use Rattle.layout.specs.Public.{Replied}
 use Rattle.outcomes.specs.Left.{LeftBy}
-use Rattle.outcomes.specs.Layout.{layout-leaves}
-use Rattle.outcomes.specs.Relayout.{relayout-leaves}
+use Rattle.outcomes.proofs.LayoutLaws.{layout-leaves}
+use Rattle.outcomes.proofs.Relayout.{relayout-leaves}
 use Rattle.records.proofs.Refusals.{No}
 use Rattle.sheet.specs.Sheet.{Sheet, sheet}
 use Rattle.day.specs.Day.{Day, Outcome, edits_of, layout_of, relayout_of, layout_event, relayout_event, edit_event, call_event, count_after, event_result, day_after}

@@ -1,16 +1,13 @@
 -- At exit of the public calls: what an exact call leaves in lent memory, and rows that any accepted calls left.
 use Rattle.std.specs.Prelude.{◌≡◌, List, ℕ, Float}
 use Rattle.tree.specs.Tree.{Tree}
-use Rattle.steps.specs.Noes.{layout_tested, relayout_tested}
-use Rattle.steps.specs.Results.{Reply, layout_result, relayout_result}
+use Rattle.steps.specs.Noes.{layout_tested}
+use Rattle.steps.specs.Results.{Reply, layout_result}
 use Rattle.steps.specs.declared.LayoutInput.{LayoutInput}
 use Rattle.steps.specs.declared.Answer.{Answer}
 use Rattle.steps.specs.declared.Tested.TheVariants.{Pass}
 use Rattle.steps.specs.declared.Spot.TheVariants as spot
-use Rattle.laws.specs.Tables.{SameShape, Named, Calls, laid_out, laid_again}
-use Rattle.laws.specs.Answers.{layout_accepted, relayout_accepted}
 use Rattle.layout.specs.Public.{Replied}
-use Rattle.claims.specs.EveryCall.{Left, left_calls}
 use Rattle.whole.specs.Whole.{Whole}
 use Rattle.integers.specs.Rows.{RowZ}
 use Rattle.integers.specs.Results.{rows_out_z, marks_out_z}
@@ -18,13 +15,12 @@ use Rattle.profile.specs.Profile.{profile_spot}
 use Rattle.exact.specs.Lists.{RelL}
 use Rattle.exact.specs.OnTables.{rows_z, ExactReply}
 use Rattle.exact.proofs.OnTables.{layout_is_exact}
-use Rattle.exact_claims.specs.Relayout.{relayout_is_exact}
 
 -- answer and lent memory at exit
 abbrev pub exit : Answer → List Float → List ℕ → List ℕ → List Float → Reply
 exit a rs ms cw cx = record { answer = a; rows = rs; marks = ms; words = cw; numbers = cx }
 
-at_exit : (r : Reply) (a : Answer) (rs : List Float) (ms cw : List ℕ) (cx : List Float) → Replied r a rs ms cw cx → exit a rs ms cw cx ≡ r
+pub at_exit : (r : Reply) (a : Answer) (rs : List Float) (ms cw : List ℕ) (cx : List Float) → Replied r a rs ms cw cx → exit a rs ms cw cx ≡ r
 at_exit r a rs ms cw cx p = rw (p.answer_is, p.rows_are, p.marks_are, p.words_are, p.numbers_are)
 
 -- ---- each call by itself
@@ -32,24 +28,10 @@ pub layout_leaves_exact : (ws : List ℕ) (xs rs : List Float) (ms cw : List ℕ
     → Replied (layout_result ws xs rs ms cw cx q) a rs' ms' cw' cx' → layout_tested ws xs rs ms cw cx q ≡ Pass → profile_spot ws xs q ≡ spot.Nowhere → ExactReply (exit a rs' ms' cw' cx') (rows_z ws xs q) cw cx
 layout_leaves_exact ws xs rs ms cw cx q a rs' ms' cw' cx' c e s = rw (at_exit _ a rs' ms' cw' cx' c) (layout_is_exact ws xs rs ms cw cx q e s)
 
-pub relayout_leaves_exact : (ws : List ℕ) (xs : List Float) (q : LayoutInput) (rs : List Float) (ms : List ℕ) (ws' : List ℕ) (xs' : List Float) (cw : List ℕ) (cx : List Float) (es : List ℕ) (p : LayoutInput) (a : Answer) (rs' : List Float) (ms' cw' : List ℕ) (cx' : List Float)
-    → Left ws xs q rs ms → SameShape ws ws' → Named es ws xs ws' xs' → Replied (relayout_result ws' xs' rs ms cw cx es p) a rs' ms' cw' cx' → relayout_tested ws' xs' rs ms cw cx es p ≡ Pass → profile_spot ws' xs' p ≡ spot.Nowhere
-    → ExactReply (exit a rs' ms' cw' cx') (rows_z ws' xs' p) cw cx
-relayout_leaves_exact ws xs q rs ms ws' xs' cw cx es p a rs' ms' cw' cx' left shape named c e s =
-    rw (at_exit _ a rs' ms' cw' cx' c) (relayout_is_exact ws xs q rs ms ws' xs' cw cx es p (left_calls ws xs q rs ms left) shape named e s)
-
 -- ---- rows that accepted calls left, plain, over records or from C, the last of them on a page and a question of the profile
 pub record ExactRows (rs : List Float) (ms : List ℕ) (t : Tree RowZ) : Type 0 where
   pub rows : RelL Whole rs (rows_out_z t)
   pub marks : ms ≡ marks_out_z t
 
-rows_in : (r : Reply) (t : Tree RowZ) (cw : List ℕ) (cx : List Float) → ExactReply r t cw cx → ExactRows r.rows r.marks t
+pub rows_in : (r : Reply) (t : Tree RowZ) (cw : List ℕ) (cx : List Float) → ExactReply r t cw cx → ExactRows r.rows r.marks t
 rows_in r t cw cx e = record { rows = e.rows; marks = e.marks }
-
-calls_are_exact : (ws : List ℕ) (xs : List Float) (q : LayoutInput) (rs : List Float) (ms : List ℕ) → Calls ws xs q rs ms → profile_spot ws xs q ≡ spot.Nowhere → ExactRows rs ms (rows_z ws xs q)
-calls_are_exact _ _ _ _ _ (laid_out ws xs rs ms cw cx q k e) s = rows_in _ _ cw cx (layout_is_exact ws xs rs ms cw cx q (layout_accepted ws xs rs ms cw cx q k e).passed s)
-calls_are_exact _ _ _ _ _ (laid_again ws xs q rs ms ws' xs' cw cx es p k before shape named e) s =
-    rows_in _ _ cw cx (relayout_is_exact ws xs q rs ms ws' xs' cw cx es p before shape named (relayout_accepted ws' xs' rs ms cw cx es p k e).passed s)
-
-pub rows_are_exact : (ws : List ℕ) (xs : List Float) (q : LayoutInput) (rs : List Float) (ms : List ℕ) → Left ws xs q rs ms → profile_spot ws xs q ≡ spot.Nowhere → ExactRows rs ms (rows_z ws xs q)
-rows_are_exact ws xs q rs ms left s = calls_are_exact ws xs q rs ms (left_calls ws xs q rs ms left) s

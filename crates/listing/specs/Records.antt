@@ -26,8 +26,8 @@ use Rattle.laws.specs.Final.{unmarked}
 use Rattle.laws.specs.Afresh.{site_in}
 use Rattle.layout.specs.Public.{Replied}
 use Rattle.layout.proofs.Accepted.{passes, again_passes}
-use Rattle.outcomes.specs.Layout.{layout-gives}
-use Rattle.outcomes.specs.Relayout.{relayout-gives}
+use Rattle.outcomes.proofs.LayoutLaws.{layout-gives}
+use Rattle.outcomes.proofs.Relayout.{relayout-gives}
 use Rattle.listing.specs.Asides.{asides, asides_needed}
 use Rattle.listing.specs.Laid.{relaid_nodes}
 use Rattle.listing.specs.Members.{Aside, Grows, listed-exactly, asides_grow}

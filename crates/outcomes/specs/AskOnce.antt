@@ -1,54 +1,35 @@
 -- Ask once, trust it: of one page and one question the both-axes size question gives numbers 2 and 3 of the root's row that a layout leaves.
-use Rattle.std.specs.Prelude.{◌≡◌, Bool, not, ◌&&◌, ◌||◌, ℕ, ◌+◌, ◌-◌, ◌*◌, ◌/◌, ◌^◌, ◌<◌, get_or, eqb, Float}
-use Rattle.std.proofs.Math.Path.{refl, sym}
-use Rattle.std.proofs.Common.{ap, ◌∙◌, arith, eqb-true}
-use Rattle.std.proofs.Math.Bool.{true, false}
+use Rattle.std.specs.Prelude.{◌≡◌, not, ◌&&◌, ℕ, ◌-◌, ◌/◌, ◌^◌, get_or, eqb, Float}
+use Rattle.std.proofs.Math.Path.{refl}
+use Rattle.std.proofs.Common.{ap, arith, eqb-true}
+use Rattle.std.proofs.Math.Bool.{false}
 use mathlib.Core.List.{List, [], ◌∷◌}
 use Rattle.std.proofs.lemmas.Bool.{not-false}
 use Rattle.geometry.specs.Geometry.{zero_f}
 use Rattle.geometry.specs.declared.Size.{Size}
-use Rattle.limits.specs.Limits.{too_large}
-use Rattle.limits.specs.Bools.{or_left, or_right}
+use Rattle.limits.specs.Bools.{or_right}
 use Rattle.util.specs.declared.OptionF32.TheVariants.{None}
-use Rattle.style.specs.Codes.{code_at, flag_at, clear_from, unit_of}
+use Rattle.style.specs.Codes.{code_at, clear_from, unit_of}
 use Rattle.style.specs.Style.{word_at}
-use Rattle.style.specs.Flow.{is_leaf}
-use Rattle.tree.specs.Tree.{Tree, Forest, node}
-use Rattle.tree.specs.Table.{from, parse_f, parse_t}
-use Rattle.tree.specs.declared.NodeId.{NodeId}
+use Rattle.tree.specs.Tree.{Forest, node}
 use Rattle.tree.proofs.Laws.{flat_t_node}
 use Rattle.steps.specs.Scan.{some}
 use Rattle.steps.specs.Row.{Row, row_numbers, laid_row}
-use Rattle.steps.specs.Page.{site_at, nodes_in, page_of}
 use Rattle.steps.specs.Question.{root_input}
-use Rattle.steps.specs.Layout.{fresh}
-use Rattle.steps.specs.SizeQuestion.{axes, size_of}
-use Rattle.steps.specs.Noes.{bad_tables, bad_rows, bad_unit, bad_align, bad_codes, ratio_beside_fraction, bad_style, bad_row, paper}
-use Rattle.steps.specs.Results.{Reply, rows_out, accepted, over_limit, replied, tested, layout_result, size_result, size_paper}
+use Rattle.steps.specs.SizeQuestion.{axes}
+use Rattle.steps.specs.Noes.{bad_unit, bad_align, bad_codes, ratio_beside_fraction, bad_style, paper}
+use Rattle.steps.specs.Results.{Reply, rows_out, size_paper}
 use Rattle.steps.specs.declared.LayoutInput.{LayoutInput}
 use Rattle.steps.specs.declared.LayoutOutput.{LayoutOutput}
 use Rattle.steps.specs.declared.Question.{Question}
-use Rattle.steps.specs.declared.RequestedAxis.TheVariants.{Both}
 use Rattle.steps.specs.declared.Answer.{Answer}
 use Rattle.steps.specs.declared.Answer.TheVariants as answer
 use Rattle.steps.specs.declared.SizeAnswer.{SizeAnswer}
-use Rattle.steps.specs.declared.SizeAnswer.TheVariants.{Sized, Refused}
-use Rattle.steps.specs.declared.Tested.TheVariants.{Pass}
+use Rattle.steps.specs.declared.SizeAnswer.TheVariants.{Sized}
 use Rattle.tables.specs.Leaves.{leaf_word}
-use Rattle.tables.specs.Refusals.{Sound, LayoutSound}
-use Rattle.tables.proofs.Passing.{sized}
-use Rattle.tables.proofs.GoodPage.{site_leaf}
-use Rattle.tables.proofs.ScanLaws.{never, some_is, nowhere-lowest}
-use Rattle.tables.proofs.Exactly.{layout-exactly}
-use Rattle.laws.specs.AskOnce.{root_laid}
-use Rattle.laws.proofs.AskOnce.{size_is_laid}
 use Rattle.layout.specs.Public.{Replied}
 use Rattle.measure.specs.Public.{SizeReplied}
-use Rattle.asked.specs.Question.{plain_question, axis_of}
 use Rattle.face.specs.Answered as face
-use Rattle.face.specs.Answered.{Answered}
-use Rattle.outcomes.specs.Layout.{layout-gives}
-use Rattle.outcomes.specs.Sizes.{large_size, size-gives}
 
 -- numbers 2 and 3 of row 0
 abbrev pub root_size : List Float → Size
@@ -60,7 +41,7 @@ root_code c e =
     let z : c ≡ 0 = eqb-true c 0 (not-false (eqb c 0) e) in
     ap (λ (k : ℕ). eqb k 1) z
 
-root_block : (ws : List ℕ) (xs : List Float) → bad_style ws xs 0 ≡ false → leaf_word (word_at ws 0 1) ≡ false
+pub root_block : (ws : List ℕ) (xs : List Float) → bad_style ws xs 0 ≡ false → leaf_word (word_at ws 0 1) ≡ false
 unfolding bad_style bad_codes
 root_block ws xs e =
     let a = or_right (ratio_beside_fraction ws xs 0) _ e in
@@ -72,90 +53,23 @@ root_block ws xs e =
     let h = or_right (some (λ f. bad_unit f (unit_of (word_at ws 0 2) (word_at ws 0 3) f)) 22) _ g in
     root_code (code_at (word_at ws 0 1) 0) h
 
-no_basis_lem : (q : Question) → (root_input q).basis ≡ None
+pub no_basis_lem : (q : Question) → (root_input q).basis ≡ None
 unfolding root_input
 no_basis_lem q = refl
 
 -- numbers 2 and 3 of the row that a laid root has
-first_row : (q : LayoutInput) (o : LayoutOutput) (p : _) (ks : Forest Row) → root_size (rows_out (node (laid_row q o p) ks)) ≡ o.size
+pub first_row : (q : LayoutInput) (o : LayoutOutput) (p : _) (ks : Forest Row) → root_size (rows_out (node (laid_row q o p) ks)) ≡ o.size
 unfolding rows_out laid_row axes
 first_row q o p ks = ap root_size (flat_t_node (λ _ r. row_numbers r) (laid_row q o p) ks)
 
-module _ (ws : List ℕ) (xs : List Float) (q : Question) where
-  abbrev laid_rows : List Float
-  laid_rows = rows_out (fresh (page_of ws xs []) (root_input q)).rows
-
-  -- the size that is asked for is that of the fresh rows
-  size-of-rows : bad_style ws xs 0 ≡ false → size_of (page_of ws xs []) (root_input q) Both ≡ root_size laid_rows
-  unfolding page_of parse_t
-  size-of-rows e =
-      let l = (site_at ws xs [] 0 0).label in
-      let k : is_leaf l.style.kind ≡ false = site_leaf ws xs [] 0 ∙ root_block ws xs e in
-      let ks = parse_f (nodes_in ws - 1) (from (site_at ws xs [] 0) 1 (nodes_in ws - 1)) in
-      let r = root_laid l ks (root_input q) k in
-      size_is_laid l ks (root_input q) k (no_basis_lem q) ∙ sym (rw r.is (first_row (root_input q) (fresh (node l ks) (root_input q)).out r.words r.kids))
-
-  large-row : large_size (root_size laid_rows) ≡ true → bad_row laid_rows 0 ≡ true
-  unfolding bad_row axes
-  large-row e = go (too_large (get_or laid_rows 2 zero_f)) refl
-    where
-      go : (b : Bool) → too_large (get_or laid_rows 2 zero_f) ≡ b → bad_row laid_rows 0 ≡ true
-      go true h = some_is (λ k. too_large (get_or laid_rows (16 * 0 + k) zero_f)) 16 2 (omega arith) h
-      go false h = some_is (λ k. too_large (get_or laid_rows (16 * 0 + k) zero_f)) 16 3 (omega arith) (ap (λ (b : Bool). b || too_large (get_or laid_rows 3 zero_f)) (sym h) ∙ e)
-
-  small_row : bad_row laid_rows 0 ≡ false → large_size (root_size laid_rows) ≡ false
-  small_row e = go (large_size (root_size laid_rows)) refl
-    where
-      go : (b : Bool) → large_size (root_size laid_rows) ≡ b → large_size (root_size laid_rows) ≡ false
-      go false h = h
-      go true h = never (sym (large-row h) ∙ e)
-
-  module _ (rs : List Float) (ms cw : List ℕ) (cx : List Float) where
-    -- the rows of an accepted layout
-    accepted-rows : LayoutSound ws xs rs ms cw cx (root_input q) → Sound (bad_row laid_rows) (nodes_in ws) → (layout_result ws xs rs ms cw cx (root_input q)).rows ≡ laid_rows
-    unfolding layout_result tested replied over_limit accepted
-    accepted-rows d s = rw ((layout-exactly ws xs rs ms cw cx (root_input q) Pass).given d, nowhere-lowest (bad_row laid_rows) (nodes_in ws) s)
-
-    tables-fit : LayoutSound ws xs rs ms cw cx (root_input q) → bad_tables ws xs ≡ false
-    tables-fit d = or_left (bad_tables ws xs) (bad_rows ws rs ms) d.lengths
-
-    some_node : LayoutSound ws xs rs ms cw cx (root_input q) → 0 < nodes_in ws
-    some_node d = (sized ws xs (tables-fit d)).some
-
-    module _ (a : Answer) (rs' : List Float) (ms' cw' : List ℕ) (cx' : List Float) (call : Replied (layout_result ws xs rs ms cw cx (root_input q)) a rs' ms' cw' cx') (r : SizeAnswer) (asked : SizeReplied (size_result ws xs (root_input q) Both) r) where
-      -- An accepted layout: the size question is answered too, with the root's size as the layout left it.
-      pub asked-is-laid : (k : ℕ) → a ≡ answer.Done k → r ≡ Sized (root_size rs')
-      asked-is-laid k e =
-          let g = (layout-gives ws xs rs ms cw cx (root_input q) a rs' ms' cw' cx' call (answer.Done k)).only e in
-          let d = g.0 in
-          let same : size_of (page_of ws xs []) (root_input q) Both ≡ root_size laid_rows = size-of-rows (d.page.codes 0 (some_node d)) in
-          let left : rs' ≡ laid_rows = call.rows_are ∙ accepted-rows d g.1 in
-          let small : large_size (size_of (page_of ws xs []) (root_input q) Both) ≡ false = ap large_size same ∙ small_row (g.1 0 (some_node d)) in
-          (size-gives ws xs (root_input q) Both (Sized (root_size rs')) r asked.answer_is).given ((tables-fit d, d.page), small, ap root_size left ∙ sym same)
-
-      -- A size that is refused by 8: a layout that passes its tests is refused by 8 too, at the root. (The other way round a layout may be refused by 8 for another row or number.)
-      pub too-large-is-laid : (i : NodeId) → r ≡ Refused (answer.TooLarge i) → LayoutSound ws xs rs ms cw cx (root_input q) → a ≡ answer.TooLarge (record { 0 = 0 })
-      too-large-is-laid i e d =
-          let g = (size-gives ws xs (root_input q) Both (Refused (answer.TooLarge i)) r asked.answer_is).only e in
-          let same = size-of-rows (d.page.codes 0 (some_node d)) in
-          let large : bad_row laid_rows 0 ≡ true = large-row (ap large_size (sym same) ∙ g.1) in
-          (layout-gives ws xs rs ms cw cx (root_input q) a rs' ms' cw' cx' call (answer.TooLarge (record { 0 = 0 }))).given (d, record { within = some_node d; fault = large; lower = λ j l. absurd (omega (arith, l)) })
-
-      -- Refused by 8 at a root whose own two numbers are not too large, or at another node: the size question answers.
-      pub sized-beside-large : (i : NodeId) → a ≡ answer.TooLarge i → large_size (root_size laid_rows) ≡ false → r ≡ Sized (root_size laid_rows)
-      sized-beside-large i e h =
-          let d = ((layout-gives ws xs rs ms cw cx (root_input q) a rs' ms' cw' cx' call (answer.TooLarge i)).only e).0 in
-          let same = size-of-rows (d.page.codes 0 (some_node d)) in
-          (size-gives ws xs (root_input q) Both (Sized (root_size laid_rows)) r asked.answer_is).given ((tables-fit d, d.page), ap large_size same ∙ h, sym same)
-
 -- ---- from C
-itself : (r : Reply) → Replied r r.answer r.rows r.marks r.words r.numbers
+pub itself : (r : Reply) → Replied r r.answer r.rows r.marks r.words r.numbers
 itself r = record { answer_is = refl; paper_is = refl; rows_are = refl; marks_are = refl; words_are = refl; numbers_are = refl }
 
-itself_sized : (r : SizeAnswer) → SizeReplied r r
+pub itself_sized : (r : SizeAnswer) → SizeReplied r r
 itself_sized r = record { answer_is = refl; paper_is = refl }
 
-done_number : (a : Answer) → (paper a).0 ≡ 0 → a ≡ answer.Done (paper a).1
+pub done_number : (a : Answer) → (paper a).0 ≡ 0 → a ≡ answer.Done (paper a).1
 unfolding paper
 done_number (answer.Done k) e = refl
 done_number answer.Lengths e = absurd (omega (arith, e))
@@ -172,26 +86,8 @@ pub record AskedAlike (word : ℕ) (size rows : List Float) : Type 0 where
   pub answered : word / 2 ^ 32 ≡ 0
   pub same : size ≡ get_or rows 2 zero_f ∷ get_or rows 3 zero_f ∷ []
 
-sized_word : (want : SizeAnswer) (rows : List Float) (word : ℕ) (size : List Float) → want ≡ Sized (root_size rows) → face.Sized want word size → AskedAlike word size rows
+pub sized_word : (want : SizeAnswer) (rows : List Float) (word : ℕ) (size : List Float) → want ≡ Sized (root_size rows) → face.Sized want word size → AskedAlike word size rows
 unfolding size_paper axes
 sized_word want rows word size e h =
     let g : face.Sized (Sized (root_size rows)) word size = rw e at h in
     record { answered = g.answer_is.number_is; same = g.size_is }
-
-module _ (ws : List ℕ) (xs rs : List Float) (ms cw : List ℕ) (cx : List Float) (width height parent available : Float) (how : ℕ) (both : flag_at how 6 ≡ false) where
-  abbrev question : Question
-  question = plain_question width height parent available how
-
-  both_axes : axis_of how ≡ Both
-  unfolding axis_of
-  both_axes = rw both
-
-  -- mearrasot_layout and mearrasot_size with the same words, where the first is accepted
-  pub c-asked-is-laid : (word : ℕ) (rs' : List Float) (ms' cw' : List ℕ) (cx' : List Float) → Answered (layout_result ws xs rs ms cw cx (root_input question)) word rs' ms' cw' cx'
-      → (word2 : ℕ) (size : List Float) → face.Sized (size_result ws xs (root_input question) (axis_of how)) word2 size → word / 2 ^ 32 ≡ 0 → AskedAlike word2 size rs'
-  c-asked-is-laid word rs' ms' cw' cx' call word2 size asked e =
-      let want = layout_result ws xs rs ms cw cx (root_input question) in
-      let k : want.answer ≡ answer.Done (paper want.answer).1 = done_number want.answer (sym call.answer_is.number_is ∙ e) in
-      let s = asked-is-laid ws xs question rs ms cw cx want.answer _ _ _ _ (itself want) (size_result ws xs (root_input question) Both) (itself_sized _) (paper want.answer).1 k in
-      let t : face.Sized (size_result ws xs (root_input question) Both) word2 size = rw both_axes at asked in
-      sized_word (size_result ws xs (root_input question) Both) rs' word2 size (s ∙ ap (λ (l : List Float). Sized (root_size l)) (sym call.rows_are)) t

@@ -7,7 +7,7 @@ use Rattle.steps.specs.declared.Answer.TheVariants.{Done}
 use Rattle.day.specs.Day.{Day, relayout_of}
 use Rattle.day_claims.specs.Replay.{Starts, replay_is_fresh}
 use Rattle.panels.specs.Panels.{Which, Panels, PanelEvent, view, own, panels_after}
-use Rattle.panels.specs.Alone.{each_alone}
+use Rattle.panels.proofs.Alone.{each_alone}
 
 -- a relayout of this day that is accepted has the whole result of a layout of its page, whatever rows that layout is lent
 abbrev pub IsFresh : Day → Type 0

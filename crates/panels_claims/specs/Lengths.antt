@@ -31,7 +31,7 @@ use Rattle.sheet.specs.declared.NodeWord.{NodeWord}
 use Rattle.day.specs.declared.Event.{Event}
 use Rattle.day.specs.declared.Event.TheVariants as event
 use Rattle.panels.specs.Panels.{Which, Panels, PanelEvent, view, own, panels_after}
-use Rattle.panels.specs.Alone.{each_alone}
+use Rattle.panels.proofs.Alone.{each_alone}
 
 -- rows and marks as long as the node table asks for
 pub record Fits (d : Day) : Type 0 where

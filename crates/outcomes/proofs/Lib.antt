@@ -1,0 +1,10 @@
+pub mod AskOnce
+pub mod AskOnceFromC
+pub mod Left
+pub mod C
+pub mod RecordsLeft
+pub mod Given
+pub mod LayoutLaws
+pub mod Sizes
+pub mod Relayout
+pub mod Records
