@@ -20,6 +20,6 @@ returns-in-Bad c = let a = c.args in
 pub returns-in-Is : goal.returns-in-Is
 returns-in-Is c = let a = c.args in
     let d = day a.r.state a.words.now a.numbers.now a.rows.now a.marks.now a.pairs.now a.triples.now a.list.now in
-    let t = c.step-t.new.words in
-    let o = left c.step-t.result t.few t.1.0 t.1.1.0 t.1.1.1.0 t.1.1.1.1.0 t.1.1.1.1.1.0 t.1.1.1.1.1.1.0 in
+    let t = c.step-t.new in
+    let o = left c.step-t.result t.words t.numbers t.rows t.marks t.pairs t.triples t.list in
     rw (line-one a.n a.l.now c.in-Is.e (sym c.event_line-e.ensures ∙ c.in-Is.is)) (ran_one c.in-Is.e d o (pen a.out.now a.r.at) (pen c.put_answer-at.new.out c.put_answer-at.result) c.step-t.ensures.left_is (rw (← c.number_of.ensures, ← c.place_of.ensures) c.put_answer-at.ensures))
