@@ -3,13 +3,13 @@ use Rattle.std.specs.Prelude.{◌≡◌, refl, List, ℕ, ◌<◌, Float}
 use Rattle.std.proofs.Common.{sym, ap, ◌∙◌}
 use Rattle.steps.specs.Page.{nodes_in}
 use Rattle.steps.specs.Noes.{relayout_tested}
-use Rattle.steps.specs.Results.{Reply, layout_result, relayout_result}
+use Rattle.steps.specs.Results.{Reply, relayout_result}
 use Rattle.steps.specs.declared.Answer.{Answer}
 use Rattle.steps.specs.declared.LayoutInput.{LayoutInput}
 use Rattle.steps.specs.declared.Tested.TheVariants.{Pass}
-use Rattle.laws.specs.Tables.{SameShape, Named, Calls, AgreeAt, below_at}
+use Rattle.laws.specs.Tables.{SameShape, AgreeAt, below_at}
 use Rattle.layout.specs.Public.{Replied}
-use Rattle.claims.specs.Claims.{relayout_is_layout, relayouts_agree}
+use Rattle.claims.specs.Claims.{relayouts_agree}
 
 -- two calls end alike: answer and every lent word
 pub record Alike (a b : Answer) (rs rs' : List Float) (ms ms' cw cw' : List ℕ) (cx cx' : List Float) : Type 0 where
@@ -32,13 +32,6 @@ one_reply r s a b rs rs' ms ms' cw cw' cx cx' e x y =
 -- one outcome: what is lent settles the answer and every lent word
 pub one_outcome : (r : Reply) (a b : Answer) (rs rs' : List Float) (ms ms' cw cw' : List ℕ) (cx cx' : List Float) → Replied r a rs ms cw cx → Replied r b rs' ms' cw' cx' → Alike a b rs rs' ms ms' cw cw' cx cx'
 one_outcome r a b rs rs' ms ms' cw cw' cx cx' x y = one_reply r r a b rs rs' ms ms' cw cw' cx cx' refl x y
-
--- `relayout` on rows that calls left, and `layout` on the same page: they end alike
-pub relayout_ends_as_layout : (ws : List ℕ) (xs : List Float) (q : LayoutInput) (rs : List Float) (ms : List ℕ) (ws' : List ℕ) (xs' : List Float) (cw : List ℕ) (cx : List Float) (es : List ℕ) (p : LayoutInput) (a b : Answer) (r1 r2 : List Float) (m1 m2 w1 w2 : List ℕ) (x1 x2 : List Float)
-    → Calls ws xs q rs ms → SameShape ws ws' → Named es ws xs ws' xs' → relayout_tested ws' xs' rs ms cw cx es p ≡ Pass → Replied (relayout_result ws' xs' rs ms cw cx es p) a r1 m1 w1 x1 → Replied (layout_result ws' xs' rs ms cw cx p) b r2 m2 w2 x2
-    → Alike a b r1 r2 m1 m2 w1 w2 x1 x2
-relayout_ends_as_layout ws xs q rs ms ws' xs' cw cx es p a b r1 r2 m1 m2 w1 w2 x1 x2 calls shape named pass x y =
-    one_reply _ _ a b r1 r2 m1 m2 w1 w2 x1 x2 (relayout_is_layout ws xs q rs ms ws' xs' cw cx es p calls shape named pass) x y
 
 -- `relayout` of two pages that differ only below kept nodes: they end alike
 pub relayouts_end_alike : (ws : List ℕ) (xs : List Float) (ws' : List ℕ) (xs' : List Float) (rs : List Float) (ms cw : List ℕ) (cx : List Float) (es : List ℕ) (q : LayoutInput) (a b : Answer) (r1 r2 : List Float) (m1 m2 w1 w2 : List ℕ) (x1 x2 : List Float) → SameShape ws ws'

@@ -1,39 +1,26 @@
 -- Demand 3 at exit of every call that does it: plain, over records, from C; and chains that mix them.
-use Rattle.std.specs.Prelude.{◌≡◌, refl, Bool, List, [], ℕ, ◌/◌, ◌^◌, ◌<◌, ◌≤◌, length, ltb, Float}
-use Rattle.std.proofs.Math.Path.{sym, ap}
-use Rattle.std.proofs.Common.{◌∙◌, subst, arith}
+use Rattle.std.specs.Prelude.{◌≡◌, refl, Bool, List, [], ℕ, ◌/◌, ◌^◌, ◌≤◌, length, ltb, Float}
+use Rattle.std.proofs.Math.Path.{sym}
+use Rattle.std.proofs.Common.{◌∙◌, arith}
 use Rattle.std.proofs.Math.Bool.{true, false}
 use borrow.Author.Tests.{ltb-true, ltb-false}
-use Rattle.tree.specs.Tree.{Tree}
-use Rattle.steps.specs.Row.{Row}
-use Rattle.steps.specs.Page.{page_of, cells_of}
-use Rattle.steps.specs.Kept.{Laid}
-use Rattle.steps.specs.Layout.{relaid, fresh}
-use Rattle.steps.specs.Candidates.{Candidate, candidates, needed}
-use Rattle.steps.specs.Noes.{paper, relayout_tested}
-use Rattle.steps.specs.Results.{Reply, layout_result, relayout_result}
+use Rattle.steps.specs.Page.{page_of}
+use Rattle.steps.specs.Candidates.{needed}
+use Rattle.steps.specs.Noes.{paper}
+use Rattle.steps.specs.Results.{layout_result, relayout_result}
 use Rattle.steps.specs.declared.Answer.{Answer}
 use Rattle.steps.specs.declared.Answer.TheVariants as answer
 use Rattle.steps.specs.declared.LayoutInput.{LayoutInput}
-use Rattle.steps.specs.declared.Tested.{Tested}
-use Rattle.steps.specs.declared.Tested.TheVariants.{Pass, Refuse}
 use Rattle.laws.specs.Tables.{SameShape, Named, Calls, laid_out, laid_again}
-use Rattle.laws.specs.Answers.{relayout_layout}
-use Rattle.laws.proofs.Public.{tables-fresh, calls-fresh}
 use Rattle.layout.specs.Public.{Replied}
-use Rattle.asked.specs.Halves.{Halves, one_word}
 use Rattle.face.specs.Answered.{Answered}
-use Rattle.records.specs.Results.{RecordsReply, layout_records_result, relayout_records_result, with_records, RecordsReplied}
+use Rattle.records.specs.Results.{layout_records_result, relayout_records_result, RecordsReplied}
 use Rattle.records.specs.declared.Record.{Record}
-use Rattle.records.proofs.EnoughOrFew.{Scarce, layout_as_plain, relayout_as_plain, layout-enough, relayout-enough, layout-few, relayout-few}
+use Rattle.records.proofs.EnoughOrFew.{layout_as_plain, relayout_as_plain}
 use Rattle.outcomes.specs.Layout.{LayoutGiven}
 use Rattle.outcomes.specs.Relayout.{RelayoutGiven}
 use Rattle.outcomes.specs.Records.{GivenIn}
 use Rattle.outcomes.proofs.Records.{layout-records-gives, relayout-records-gives}
-use Rattle.claims.specs.Discharged.{checks}
-use Rattle.claims.specs.Claims.{relayout_is_layout}
-use Rattle.claims.specs.AtExit.{Alike, one_reply}
-use Rattle.claims.specs.Agreeing.{both_parts}
 
 -- Rows and marks at exit of accepted calls of any kind, each relayout given them unaltered, the same shape and a list that names every changed node.
 pub data Left : List ℕ → List Float → LayoutInput → List Float → List ℕ → Type 0 where
@@ -105,48 +92,3 @@ left_calls _ _ _ _ _ (by_relayout_records ws xs q rs ms ws' xs' cw cx lent es p 
     again_at ws xs q rs ms ws' xs' cw cx es p k rs' ms' (left_calls ws xs q rs ms before) shape named (sym d.answer_is) d.rows_are d.marks_are
 left_calls _ _ _ _ _ (by_relayout_from_c ws xs q rs ms ws' xs' cw cx es p r rs' ms' cw' cx' before shape named c z) =
     again_at ws xs q rs ms ws' xs' cw cx es p _ rs' ms' (left_calls ws xs q rs ms before) shape named (number_0 _ (sym c.answer_is.number_is ∙ z)) c.rows_are c.marks_are
-
--- ---- a relayout of each kind ends as a layout of that kind
-module _ (ws : List ℕ) (xs : List Float) (q : LayoutInput) (rs : List Float) (ms : List ℕ) (ws' : List ℕ) (xs' : List Float) (cw : List ℕ) (cx : List Float) (es : List ℕ) (p : LayoutInput) (left : Left ws xs q rs ms) (shape : SameShape ws ws')
-    (named : Named es ws xs ws' xs') (pass : relayout_tested ws' xs' rs ms cw cx es p ≡ Pass) where
-  same-result : relayout_result ws' xs' rs ms cw cx es p ≡ layout_result ws' xs' rs ms cw cx p
-  same-result = relayout_is_layout ws xs q rs ms ws' xs' cw cx es p (left_calls ws xs q rs ms left) shape named pass
-
-  same-laid : relaid (cells_of ws' xs' rs ms es) p ≡ fresh (page_of ws' xs' []) p
-  same-laid =
-      let o = calls-fresh checks ws xs q rs ms (left_calls ws xs q rs ms left) in
-      let s = checks.sound ws' xs' rs ms cw cx p (relayout_layout ws' xs' rs ms cw cx es p pass) in
-      tables-fresh ws xs ws' xs' rs ms es shape o.sound.some q p o.sound s named o.rows o.marks
-
-  pub relayout-ends-so : (a b : Answer) (r1 r2 : List Float) (m1 m2 w1 w2 : List ℕ) (x1 x2 : List Float) → Replied (relayout_result ws' xs' rs ms cw cx es p) a r1 m1 w1 x1 → Replied (layout_result ws' xs' rs ms cw cx p) b r2 m2 w2 x2 → Alike a b r1 r2 m1 m2 w1 w2 x1 x2
-  relayout-ends-so a b r1 r2 m1 m2 w1 w2 x1 x2 x y = one_reply _ _ a b r1 r2 m1 m2 w1 w2 x1 x2 same-result x y
-
-  -- from C: one word, and the same memory
-  pub c-relayout-ends-so : (r s : ℕ) (r1 r2 : List Float) (m1 m2 w1 w2 : List ℕ) (x1 x2 : List Float) → Answered (relayout_result ws' xs' rs ms cw cx es p) r r1 m1 w1 x1 → Answered (layout_result ws' xs' rs ms cw cx p) s r2 m2 w2 x2
-      → (r ≡ s) × (r1 ≡ r2) × (m1 ≡ m2) × (w1 ≡ w2) × (x1 ≡ x2)
-  c-relayout-ends-so r s r1 r2 m1 m2 w1 w2 x1 x2 x y =
-      let z = subst (λ (v : Reply). Answered v r r1 m1 w1 x1) same-result x in
-      (one_word _ r s z.answer_is y.answer_is, z.rows_are ∙ sym y.rows_are, z.marks_are ∙ sym y.marks_are, z.pairs_are ∙ sym y.pairs_are, z.triples_are ∙ sym y.triples_are)
-
-  -- over records
-  records-by : (lent : List Record) (v : Bool) → ltb (length lent) (needed (page_of ws' xs' [])) ≡ v → relayout_records_result ws' xs' rs ms cw cx lent es p ≡ layout_records_result ws' xs' rs ms cw cx lent p
-  unfolding layout_records_result relayout_records_result with_records
-  records-by lent true e =
-      let l = ltb-true (length lent) (needed (page_of ws' xs' [])) e in
-      let x = relayout-few ws' xs' rs ms cw cx lent es p l in
-      let y = layout-few ws' xs' rs ms cw cx lent p l in
-      let z : x.answer ≡ y.answer = refusal (sym x.first_due ∙ y.first_due) in
-      x.is_as_lent ∙ ap (λ (a : Answer). record { plain = record { answer = a; rows = rs; marks = ms; words = cw; numbers = cx }; records = lent }) z ∙ sym y.is_as_lent
-    where
-      refusal : {a b : Answer} → Refuse a ≡ Refuse b → a ≡ b
-      refusal e = cc
-  records-by lent false e =
-      let h = ltb-false (length lent) (needed (page_of ws' xs' [])) e in
-      let x = relayout-enough ws' xs' rs ms cw cx lent es p h ∙ same-result ∙ sym (layout-enough ws' xs' rs ms cw cx lent p h) in
-      both_parts _ _ (ap (λ (l : Laid). candidates l.rows) same-laid) lent x
-
-  pub records-relayout-ends-so : (lent : List Record) (a b : Answer) (r1 r2 : List Float) (m1 m2 w1 w2 : List ℕ) (x1 x2 : List Float) (o1 o2 : List Record) → RecordsReplied (relayout_records_result ws' xs' rs ms cw cx lent es p) a r1 m1 w1 x1 o1
-      → RecordsReplied (layout_records_result ws' xs' rs ms cw cx lent p) b r2 m2 w2 x2 o2 → Alike a b r1 r2 m1 m2 w1 w2 x1 x2 × (o1 ≡ o2)
-  records-relayout-ends-so lent a b r1 r2 m1 m2 w1 w2 x1 x2 o1 o2 x y =
-      let e = records-by lent _ refl in
-      (one_reply _ _ a b r1 r2 m1 m2 w1 w2 x1 x2 (ap (λ (v : RecordsReply). v.plain) e) x.plain_is y.plain_is, x.records_are ∙ ap (λ (v : RecordsReply). v.records) e ∙ sym y.records_are)

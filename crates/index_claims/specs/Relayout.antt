@@ -8,7 +8,7 @@ use Rattle.steps.specs.declared.LayoutInput.{LayoutInput}
 use Rattle.steps.specs.declared.Tested.TheVariants.{Pass}
 use Rattle.laws.specs.Tables.{SameShape, Named, Calls}
 use Rattle.layout.specs.Public.{Replied}
-use Rattle.claims.specs.AtExit.{relayout_ends_as_layout}
+use Rattle.claims.proofs.AtExit.{relayout_ends_as_layout}
 use Rattle.index.specs.Index.{Index, index_result, Indexed}
 use Rattle.index.specs.declared.IndexAnswer.{IndexAnswer}
 
