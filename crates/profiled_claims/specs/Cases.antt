@@ -69,11 +69,11 @@ module _ (r : Reply) (rs : List Float) (ms cw : List ℕ) (cx : List Float) wher
   early-plain t s a e f = rw (e, f)
 
   -- an answer that is not 11 is the plain call's, and so is all that it leaves
-  pub as_plain : (t : Tested) (s : Spot) (a : Answer) → ((b : Answer) → t ≡ Refuse b → r ≡ as_lent b rs ms cw cx) → (profile_reply (profile_tested t s) r rs ms cw cx).answer ≡ Plain a → profile_reply (profile_tested t s) r rs ms cw cx ≡ as_plain r
+  pub is_as_plain : (t : Tested) (s : Spot) (a : Answer) → ((b : Answer) → t ≡ Refuse b → r ≡ as_lent b rs ms cw cx) → (profile_reply (profile_tested t s) r rs ms cw cx).answer ≡ Plain a → profile_reply (profile_tested t s) r rs ms cw cx ≡ as_plain r
   unfolding profile_tested profile_reply
-  as_plain (Refuse b) s a h e = early-plain (Refuse b) s b refl (h b refl)
-  as_plain Pass (At k) a h e = no_plain e
-  as_plain Pass Nowhere a h e = refl
+  is_as_plain (Refuse b) s a h e = early-plain (Refuse b) s b refl (h b refl)
+  is_as_plain Pass (At k) a h e = no_plain e
+  is_as_plain Pass Nowhere a h e = refl
 
   -- and then the page is of the profile, if 1 to 4 pass
   pub plain_in : (t : Tested) (s : Spot) (a : Answer) → t ≡ Pass → (profile_reply (profile_tested t s) r rs ms cw cx).answer ≡ Plain a → s ≡ Nowhere

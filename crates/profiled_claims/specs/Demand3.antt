@@ -17,18 +17,18 @@ use Rattle.tables.specs.Early.{early_tested}
 use Rattle.profiled.specs.Profiled.{profile_tested, ProfileReply, profile_reply, profiled_layout_result, profiled_relayout_result}
 use Rattle.profiled.specs.Public.{ProfileReplied}
 use Rattle.profiled.specs.declared.ProfileAnswer.TheVariants.{Plain, Outside}
-use Rattle.profiled_claims.specs.Cases.{as_plain, as_plain, in-plain, same_answer, early-refuses, early-passes, layout-lent, relayout-lent, relayout-too}
+use Rattle.profiled_claims.specs.Cases.{as_plain, is_as_plain, in-plain, same_answer, early-refuses, early-passes, layout-lent, relayout-lent, relayout-too}
 
 -- ---- an answer that is not 11 is the plain call's, with all that it leaves
 pub layout_as_plain : (ws : List ℕ) (xs rs : List Float) (ms cw : List ℕ) (cx : List Float) (q : LayoutInput) (a : Answer) → (profiled_layout_result ws xs rs ms cw cx q).answer ≡ Plain a → profiled_layout_result ws xs rs ms cw cx q ≡ as_plain (layout_result ws xs rs ms cw cx q)
 unfolding profiled_layout_result
 layout_as_plain ws xs rs ms cw cx q a e =
-    as_plain (layout_result ws xs rs ms cw cx q) rs ms cw cx (early_tested ws xs rs ms q) (profile_spot ws xs q) a (λ b t. layout-lent ws xs rs ms cw cx q b (early-refuses ws xs rs ms cw cx q b t)) e
+    is_as_plain (layout_result ws xs rs ms cw cx q) rs ms cw cx (early_tested ws xs rs ms q) (profile_spot ws xs q) a (λ b t. layout-lent ws xs rs ms cw cx q b (early-refuses ws xs rs ms cw cx q b t)) e
 
 pub relayout_as_plain : (ws : List ℕ) (xs rs : List Float) (ms cw : List ℕ) (cx : List Float) (es : List ℕ) (q : LayoutInput) (a : Answer) → (profiled_relayout_result ws xs rs ms cw cx es q).answer ≡ Plain a → profiled_relayout_result ws xs rs ms cw cx es q ≡ as_plain (relayout_result ws xs rs ms cw cx es q)
 unfolding profiled_relayout_result
 relayout_as_plain ws xs rs ms cw cx es q a e =
-    as_plain (relayout_result ws xs rs ms cw cx es q) rs ms cw cx (early_tested ws xs rs ms q) (profile_spot ws xs q) a
+    is_as_plain (relayout_result ws xs rs ms cw cx es q) rs ms cw cx (early_tested ws xs rs ms q) (profile_spot ws xs q) a
     (λ b t. relayout-lent ws xs rs ms cw cx q es b (relayout-too ws xs rs ms cw cx q es b (early-refuses ws xs rs ms cw cx q b t))) e
 
 -- ---- rows that accepted calls left, asked as profile
