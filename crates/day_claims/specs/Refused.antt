@@ -1,12 +1,12 @@
 -- Refused events: 1 to 7 leave the day as it was, and after 8, as before the first layout, only a layout helps.
-use Rattle.std.specs.Prelude.{◌≡◌, refl, Bool, true, false, ◌||◌, List, [], ◌∷◌, ℕ, ◌≤◌, length, get_or, replicate, eqb, Float}
-use Rattle.std.proofs.Common.{sym, ◌∙◌, ap, ne_eqb}
+use Rattle.std.specs.Prelude.{◌≡◌, refl, Bool, true, false, ◌||◌, List, [], ◌∷◌, ℕ, ◌≤◌, length, get_or}
+use Rattle.std.proofs.Common.{sym, ◌∙◌, ne_eqb}
 use Rattle.std.proofs.Math.Bool.{true≢false}
 use native.Mathlib.Omega.{arith}
 use Rattle.style.specs.Codes.{flag_at}
-use Rattle.steps.specs.Noes.{paper, layout_tested, relayout_tested}
+use Rattle.steps.specs.Noes.{paper, relayout_tested}
 use Rattle.steps.specs.Question.{root_input}
-use Rattle.steps.specs.Results.{Reply, layout_result, relayout_result}
+use Rattle.steps.specs.Results.{Reply}
 use Rattle.steps.specs.declared.Answer.{Answer}
 use Rattle.steps.specs.declared.Answer.TheVariants as answer
 use Rattle.steps.specs.declared.Tested.{Tested}
@@ -18,12 +18,10 @@ use Rattle.outcomes.specs.Left.{LeftBy}
 use Rattle.outcomes.proofs.LayoutLaws.{layout-leaves}
 use Rattle.outcomes.proofs.Relayout.{relayout-leaves}
 use Rattle.records.proofs.Refusals.{No}
-use Rattle.sheet.specs.Sheet.{Sheet, sheet}
-use Rattle.day.specs.Day.{Day, Outcome, edits_of, layout_of, relayout_of, layout_event, relayout_event, edit_event, call_event, count_after, event_result, day_after}
+use Rattle.day.specs.Day.{Day, edits_of, layout_of, relayout_of, edit_event, call_event, count_after, event_result}
 use Rattle.day.specs.declared.Event.{Event}
 use Rattle.day.specs.declared.Event.TheVariants as event
 use Rattle.day_claims.specs.Called.{Kind, is_as_lent, zeroed, done, relayout-kind, root_laid, zero_marks}
-use Rattle.day_claims.specs.Replay.{Starts}
 
 itself : (r : Reply) → Replied r r.answer r.rows r.marks r.words r.numbers
 itself r = record { answer_is = refl; paper_is = refl; rows_are = refl; marks_are = refl; words_are = refl; numbers_are = refl }
@@ -58,7 +56,7 @@ unfolding event_result
 refused_relayout_leaves d l m = call_lent d (relayout_of d) (relayout_does d) l m
 
 -- the root is not laid
-abbrev Unlaid : Day → Type 0
+abbrev pub Unlaid : Day → Type 0
 Unlaid d = flag_at (get_or d.marks 1 0) 0 ≡ false
 
 -- 7, or an earlier number
@@ -107,7 +105,7 @@ unfoldable pub layout_in : List Event → Bool
 layout_in [] = false
 layout_in (e ∷ es) = is_layout e || layout_in es
 
-event_unlaid : (e : Event) (d : Day) → is_layout e ≡ false → Unlaid d → Unlaid (event_result e d).after
+pub event_unlaid : (e : Event) (d : Day) → is_layout e ≡ false → Unlaid d → Unlaid (event_result e d).after
 unfolding event_result edit_event is_layout
 event_unlaid (event.Number x) d n h = h
 event_unlaid (event.Word x) d n h = h
@@ -115,31 +113,18 @@ event_unlaid (event.Ask a) d n h = h
 event_unlaid event.Relayout d n h = let s = unlaid-answer d h in rw (call_lent d (relayout_of d) (relayout_does d) s.0 s.1) h
 event_unlaid event.Layout d n h = absurd (true≢false n)
 
-or_left : (a b : Bool) → a || b ≡ false → a ≡ false
+pub or_left : (a b : Bool) → a || b ≡ false → a ≡ false
 or_left true b e = e
 or_left false b e = refl
 
-or_right : (a b : Bool) → a || b ≡ false → b ≡ false
+pub or_right : (a b : Bool) → a || b ≡ false → b ≡ false
 or_right true b e = absurd (true≢false e)
 or_right false b e = e
 
-day_unlaid : (es : List Event) (d : Day) → layout_in es ≡ false → Unlaid d → Unlaid (day_after es d)
-unfolding day_after layout_in
-day_unlaid [] d n h = h
-day_unlaid (e ∷ es) d n h = day_unlaid es (event_result e d).after (or_right (is_layout e) (layout_in es) n) (event_unlaid e d (or_left (is_layout e) (layout_in es) n) h)
-
-eight_unlaid : (e : Event) (d : Day) → (paper (event_result e d).answer).0 ≡ 8 → Unlaid (event_result e d).after
+pub eight_unlaid : (e : Event) (d : Day) → (paper (event_result e d).answer).0 ≡ 8 → Unlaid (event_result e d).after
 unfolding event_result edit_event call_event paper
 eight_unlaid (event.Number x) d n = absurd (omega arith)
 eight_unlaid (event.Word x) d n = absurd (omega arith)
 eight_unlaid (event.Ask a) d n = absurd (omega arith)
 eight_unlaid event.Relayout d n = zero_marks (length d.marks) (relayout_of d).marks ((relayout_does d).zeroed n).marks
 eight_unlaid event.Layout d n = zero_marks (length d.marks) (layout_of d).marks ((layout_does d).zeroed n).marks
-
--- After an event that answered 8, and any events but a layout, a relayout answers 7 or an earlier number.
-pub after_eight : (e : Event) (d : Day) → (paper (event_result e d).answer).0 ≡ 8 → (es : List Event) → layout_in es ≡ false → SevenOrEarlier (relayout_of (day_after es (event_result e d).after)).answer
-after_eight e d n es l = unlaid-answer (day_after es (event_result e d).after) (day_unlaid es (event_result e d).after l (eight_unlaid e d n))
-
--- So it does from zero rows, before the first layout.
-pub before_a_layout : (d : Day) → Starts d → (es : List Event) → layout_in es ≡ false → SevenOrEarlier (relayout_of (day_after es d)).answer
-before_a_layout d s es l = unlaid-answer (day_after es d) (day_unlaid es d l (zero_marks (length d.marks) d.marks s.marks_zero))

@@ -1,12 +1,10 @@
 -- Which nodes of a page the candidate list names, said of styles alone; and that these are as many as are needed.
 use Rattle.std.specs.Prelude.{◌≡◌, refl, List, [], ◌∷◌, ◌++◌, ℕ, suc, ◌+◌, length}
-use Rattle.std.proofs.Common.{ap₂, ◌∙◌, length-append}
 use Rattle.tree.specs.Tree.{Tree, Forest, node, none, more, count_t}
 use Rattle.style.specs.Flow.{flow_of}
 use Rattle.style.specs.declared.Flow.{Flow}
 use Rattle.style.specs.declared.Flow.TheVariants.{Gone, Out, In}
 use Rattle.steps.specs.Page.{Site}
-use Rattle.steps.specs.Candidates.{needed_t, needed_f, needed}
 use Rattle.steps.proofs.Clauses.{by_flow}
 
 -- shown out-of-flow children below no hidden node and no other such child, by number, in preorder; b is the number of the first node
@@ -23,21 +21,7 @@ unfoldable pub asides : Tree Site → List ℕ
 asides (node l ks) = asides_f 1 ks
 
 -- as many as refusal 5 asks room for
-by_flow_lem : (w : Flow) (b : ℕ) (l : List ℕ) (n : ℕ) → length l ≡ n → length (by_flow w [] (b ∷ []) l) ≡ by_flow w 0 1 n
+pub by_flow_lem : (w : Flow) (b : ℕ) (l : List ℕ) (n : ℕ) → length l ≡ n → length (by_flow w [] (b ∷ []) l) ≡ by_flow w 0 1 n
 by_flow_lem Gone b l n e = refl
 by_flow_lem Out b l n e = refl
 by_flow_lem In b l n e = e
-
-mutual
-  unfolding asides_t needed_t
-
-  length_t : (b : ℕ) (t : Tree Site) → length (asides_t b t) ≡ needed_t t
-  length_t b (node l ks) = by_flow_lem (flow_of l.style) b (asides_f (suc b) ks) (needed_f ks) (length_f (suc b) ks)
-
-  length_f : (b : ℕ) (ts : Forest Site) → length (asides_f b ts) ≡ needed_f ts
-  length_f b none = refl
-  length_f b (more t ts) = length-append (asides_t b t) _ ∙ ap₂ ◌+◌ (length_t b t) (length_f _ ts)
-
-pub asides_needed : (t : Tree Site) → length (asides t) ≡ needed t
-unfolding asides needed
-asides_needed (node l ks) = length_f 1 ks

@@ -9,9 +9,8 @@ use Rattle.style.specs.declared.Flow.{Flow}
 use Rattle.style.specs.declared.Flow.TheVariants.{Gone, Out, In}
 use Rattle.steps.specs.Row.{Row, is_laid, is_out}
 use Rattle.steps.specs.Page.{Site}
-use Rattle.steps.specs.Candidates.{Candidate, candidate_of, moved_by, candidates_at, candidates, candidates_t, candidates_f}
+use Rattle.steps.specs.Candidates.{Candidate, candidate_of, moved_by, candidates_at, candidates_t, candidates_f}
 use Rattle.steps.proofs.Clauses.{by_flow}
-use Rattle.listing.specs.Asides.{asides_t, asides_f, asides}
 
 -- a row that is laid, one out of flow, any other
 abbrev pub row_flow : Row → Flow
@@ -32,15 +31,15 @@ unfoldable mutual
 
 -- the numbers of the nodes out of flow
 unfoldable mutual
-  outs_t : ℕ → Tree Flow → List ℕ
+  pub outs_t : ℕ → Tree Flow → List ℕ
   outs_t b (node w ks) = by_flow w [] (b ∷ []) (outs_f (suc b) ks)
 
-  outs_f : ℕ → Forest Flow → List ℕ
+  pub outs_f : ℕ → Forest Flow → List ℕ
   outs_f b none = []
   outs_f b (more t ts) = outs_t b t ++ outs_f (b + count_t t) ts
 
 -- of finished rows they are the candidate list's
-abbrev node_of : Candidate → ℕ
+abbrev pub node_of : Candidate → ℕ
 node_of c = c.node
 
 moved_nodes : (r : Row) (l : List Candidate) → map node_of (map (moved_by r) l) ≡ map node_of l
@@ -63,7 +62,7 @@ mutual
   row_outs_t : (b : ℕ) (t : Tree Row) → map node_of (candidates_t b t) ≡ outs_t b (map_t row_flow t)
   row_outs_t b (node r ks) = at_row b r (candidates_f (suc b) ks) ∙ ap (λ (l : List ℕ). by_flow (row_flow r) [] (b ∷ []) l) (row_outs_f (suc b) ks)
 
-  row_outs_f : (b : ℕ) (ts : Forest Row) → map node_of (candidates_f b ts) ≡ outs_f b (map_f row_flow ts)
+  pub row_outs_f : (b : ℕ) (ts : Forest Row) → map node_of (candidates_f b ts) ≡ outs_f b (map_f row_flow ts)
   row_outs_f b none = refl
   row_outs_f b (more t ts) = map-append node_of (candidates_t b t) (candidates_f (b + count_t t) ts) ∙ rw (row_outs_t b t, row_outs_f (b + count_t t) ts, count_map_t row_flow t)
 
@@ -71,7 +70,7 @@ mutual
 mutual
   unfolding seen_t count_t
 
-  seen_count_t : (t : Tree Site) → count_t (seen_t t) ≡ count_t t
+  pub seen_count_t : (t : Tree Site) → count_t (seen_t t) ≡ count_t t
   seen_count_t (node l ks) = ap suc (go (flow_of l.style) (seen_count_f ks))
     where
       go : (w : Flow) → count_f (seen_f ks) ≡ count_f ks → count_f (by_flow w (gone_f ks) (gone_f ks) (seen_f ks)) ≡ count_f ks
@@ -82,29 +81,3 @@ mutual
   seen_count_f : (ts : Forest Site) → count_f (seen_f ts) ≡ count_f ts
   seen_count_f none = refl
   seen_count_f (more t ts) = rw (seen_count_t t, seen_count_f ts)
-
-mutual
-  unfolding seen_t outs_t asides_t
-
-  seen_outs_t : (b : ℕ) (t : Tree Site) → outs_t b (seen_t t) ≡ asides_t b t
-  seen_outs_t b (node l ks) = go (flow_of l.style) (seen_outs_f (suc b) ks)
-    where
-      go : (w : Flow) → outs_f (suc b) (seen_f ks) ≡ asides_f (suc b) ks → by_flow w [] (b ∷ []) (outs_f (suc b) (by_flow w (gone_f ks) (gone_f ks) (seen_f ks))) ≡ by_flow w [] (b ∷ []) (asides_f (suc b) ks)
-      go Gone h = refl
-      go Out h = refl
-      go In h = h
-
-  seen_outs_f : (b : ℕ) (ts : Forest Site) → outs_f b (seen_f ts) ≡ asides_f b ts
-  seen_outs_f b none = refl
-  seen_outs_f b (more t ts) = rw (seen_outs_t b t, seen_count_t t, seen_outs_f (b + count_t t) ts)
-
--- rows whose bits are those of a page's styles have its asides for candidates
-pub seen_nodes : (l : Site) (ks : Forest Site) (u : Tree Row) → map_t row_flow u ≡ node In (seen_f ks) → map (λ (c : Candidate). c.node) (candidates u) ≡ asides (node l ks)
-unfolding candidates asides map_t
-seen_nodes l ks (node r us) e = row_outs_f 1 us ∙ ap (outs_f 1) (kids (ap below e)) ∙ seen_outs_f 1 ks
-  where
-    below : Tree Flow → Forest Flow
-    below (node w vs) = vs
-
-    kids : below (node (row_flow r) (map_f row_flow us)) ≡ below (node In (seen_f ks)) → map_f row_flow us ≡ seen_f ks
-    kids p = p

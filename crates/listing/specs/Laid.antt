@@ -1,34 +1,29 @@
 -- Rows that a layout or a relayout leaves: bits 0 and 2 are those of the page's styles, whatever the old rows, so the candidate list names its asides.
-use Rattle.std.specs.Prelude.{◌≡◌, refl, Bool, true, false, cond, not, map, ℕ, ◌+◌, ◌*◌, ◌/◌, ◌%◌, eqb, Float}
-use Rattle.std.proofs.Common.{sym, ap, ◌∙◌, arith}
+use Rattle.std.specs.Prelude.{◌≡◌, refl, Bool, true, false, cond, ℕ, Float}
+use Rattle.std.proofs.Common.{sym, ap, ◌∙◌}
 use Rattle.geometry.specs.Geometry.{zero_f}
-use Rattle.geometry.specs.declared.Point.{Point}
 use Rattle.util.specs.declared.OptionF32.{OptionF32}
 use Rattle.util.specs.declared.OptionF32.TheVariants.{None, Some}
-use Rattle.limits.specs.Bools.{and_fst, and_snd}
 use Rattle.tree.specs.Tree.{Tree, Forest, node, none, more, map_t, map_f, on_root, root_t}
 use Rattle.tree.proofs.Laws.{map_t_node, map_f_none, map_f_more, map_map_f}
 use Rattle.style.specs.Flow.{is_leaf, flow_of}
 use Rattle.style.specs.declared.Flow.{Flow}
 use Rattle.style.specs.declared.Flow.TheVariants.{Gone, Out, In}
 use Rattle.steps.specs.Stack.{question_to, item_of, place_of, stepped, edges_of, line_of, past_aside, past_hidden}
-use Rattle.steps.specs.Row.{Row, bare, no_row, hidden_row, aside_row, noted, with_code, put_at, lowered, is_laid, is_out}
-use Rattle.steps.specs.Page.{Cell, Node, any_t}
-use Rattle.steps.specs.Probe.{width_pass}
-use Rattle.steps.specs.Kept.{final_stands, edited_node, kept, keep, kept_row, laid_bits, below_row, fix_t, fix_f, zeros_t, zeros_f}
-use Rattle.steps.specs.Layout.{Stacked, lay_t, lay_f, ask_t, skip, aside, place, lower_f, align_f, relaid}
-use Rattle.steps.specs.Candidates.{Candidate, candidates}
+use Rattle.steps.specs.Row.{Row, bare, no_row, hidden_row, aside_row, put_at, lowered, is_laid, is_out}
+use Rattle.steps.specs.Page.{Node}
+use Rattle.steps.specs.Kept.{kept, keep, kept_row, below_row, fix_t, fix_f, zeros_t, zeros_f}
+use Rattle.steps.specs.Layout.{Stacked, lay_t, lay_f, ask_t, skip, aside, place, lower_f, align_f}
 use Rattle.steps.specs.declared.LayoutInput.{LayoutInput}
 use Rattle.steps.specs.declared.Frame.{Frame}
 use Rattle.steps.specs.declared.Cursor.{Cursor}
 use Rattle.steps.proofs.Clauses.{by_flow, style_t, lay_f_none, lay_f_gone, lay_f_out, lay_f_in, ask_t_kept, ask_t_new, fix_t_at, fix_f_none, fix_f_more, leaf_rows, block_rows}
 use Rattle.laws.specs.Bits.{laid_row_lem}
-use Rattle.laws.specs.Afresh.{site_in, site_of, sites_t}
+use Rattle.laws.specs.Afresh.{site_of}
 use Rattle.tables.specs.Leaves.{LeavesT, LeavesF}
 use Rattle.tables.proofs.GoodPage.{leaf_site}
 use Rattle.layout.proofs.Count.{low_bits, put_bits, kept_laid, below_laid, kept_old_lem}
-use Rattle.listing.specs.Asides.{asides}
-use Rattle.listing.specs.Flows.{row_flow, gone_f, seen_t, seen_f, seen_nodes}
+use Rattle.listing.specs.Flows.{row_flow, gone_f, seen_t, seen_f}
 
 -- what is wanted of the rows of a node, and of siblings
 abbrev want_t : Tree Node → Tree Flow
@@ -38,7 +33,7 @@ abbrev want_f : Forest Node → Forest Flow
 want_f ts = seen_f (map_f site_of ts)
 
 -- children of no leaf
-abbrev Leafy : Tree Node → Type 0
+abbrev pub Leafy : Tree Node → Type 0
 Leafy t = LeavesT leaf_site (map_t site_of t)
 
 abbrev LeafyF : Forest Node → Type 0
@@ -116,7 +111,7 @@ mutual
   fix_f_lem (more t ts) = rw (fix_f_more t ts, map_f_more, want_more t ts, fix_t_lem t, fix_f_lem ts)
 
 -- a node that is laid or kept: it is in flow, and its children are as they should be
-abbrev in_t : Tree Node → Tree Flow
+abbrev pub in_t : Tree Node → Tree Flow
 in_t (node l ks) = node In (want_f ks)
 
 keep_flows : (l : Node) (ks : Forest Node) (q : LayoutInput) → kept (node l ks) q ≡ true → map_t row_flow (keep (node l ks)).rows ≡ in_t (node l ks)
@@ -170,19 +165,9 @@ unfolding root_t
 one_more (node l ks) ts f c h r = more_flows l ks ts f c (ask_flows l ks (question_to f l.site.style) h) r
 
 mutual
-  flows_t : (t : Tree Node) (q : LayoutInput) (found : Float) → Leafy t → map_t row_flow (lay_t t q found).rows ≡ in_t t
+  pub flows_t : (t : Tree Node) (q : LayoutInput) (found : Float) → Leafy t → map_t row_flow (lay_t t q found).rows ≡ in_t t
   flows_t (node l ks) q found g = node_flows l ks q found g (λ f c. flows_f ks f c (leaf_kids l ks g))
 
   flows_f : (ts : Forest Node) (f : Frame) (c : Cursor) → LeafyF ts → map_f row_flow (lay_f ts f c).rows ≡ want_f ts
   flows_f none f c g = ap (λ (s : Stacked). map_f row_flow s.rows) (lay_f_none f c) ∙ map_f_none row_flow ∙ sym want_none
   flows_f (more t ts) f c g = one_more t ts f c (flows_t t (question_to f (style_t t)) zero_f (first_leafy t ts g)) (λ d. flows_f ts f d (rest_leafy t ts g))
-
--- the records' node numbers
-laid_nodes : (t : Tree Node) (q : LayoutInput) (found : Float) → Leafy t → map (λ (c : Candidate). c.node) (candidates (lay_t t q found).rows) ≡ asides (map_t site_of t)
-unfolding map_t
-laid_nodes (node l ks) q found g = seen_nodes (site_of l) (map_f site_of ks) (lay_t (node l ks) q found).rows (flows_t (node l ks) q found g)
-
--- every page whose leaves have no children, any old rows
-pub relaid_nodes : (t : Tree Cell) (q : LayoutInput) → LeavesT leaf_site (map_t site_in t) → map (λ (c : Candidate). c.node) (candidates (relaid t q).rows) ≡ asides (map_t site_in t)
-unfolding relaid
-relaid_nodes t q g = rw (← sites_t t q) (laid_nodes (width_pass t q).nodes q (width_pass t q).found (rw (sites_t t q) g))

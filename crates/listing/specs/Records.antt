@@ -2,35 +2,17 @@
 use Rattle.std.specs.Prelude.{◌≡◌, refl, ℕ, length, Float}
 use Rattle.std.proofs.Common.{sym, ap, ◌∙◌}
 use mathlib.Core.List.{List, [], map, Memᴰ}
-use Rattle.std.proofs.lemmas.List.{length-map}
-use Rattle.tree.specs.Tree.{Tree, map_t}
+use Rattle.tree.specs.Tree.{map_t}
 use Rattle.tree.proofs.Laws.{map_map_t}
-use Rattle.steps.specs.Row.{Row}
-use Rattle.steps.specs.Page.{Site, Cell, named, site_at, nodes_in, page_of, cells_of, blank}
-use Rattle.steps.specs.Layout.{relaid, fresh}
-use Rattle.steps.specs.Candidates.{Candidate, candidates, candidate_words, candidate_numbers, needed}
-use Rattle.steps.specs.Noes.{bad_row, layout_tested, relayout_tested}
-use Rattle.steps.specs.Results.{rows_out, listed, on_front, accepted, over_limit, replied, tested, layout_result, relayout_result}
-use Rattle.steps.specs.declared.LayoutInput.{LayoutInput}
-use Rattle.steps.specs.declared.Answer.{Answer}
-use Rattle.steps.specs.declared.Answer.TheVariants.{Done}
-use Rattle.steps.specs.declared.Tested.{Tested}
-use Rattle.steps.specs.declared.Tested.TheVariants.{Pass}
-use Rattle.tables.specs.Leaves.{LeavesT}
-use Rattle.tables.specs.Refusals.{Sound}
-use Rattle.tables.specs.TreeCheck.{GoodTable}
-use Rattle.tables.proofs.ScanLaws.{nowhere-lowest}
-use Rattle.tables.proofs.GoodPage.{leaf_site, good_page, parse-relabel, page_of_cells}
-use Rattle.tables.proofs.Exactly.{Exactly, layout-exactly, relayout-exactly}
+use Rattle.steps.specs.Page.{Cell, named, site_at, nodes_in, page_of, cells_of, blank}
+use Rattle.steps.specs.Candidates.{Candidate, candidate_words, candidate_numbers, needed}
+use Rattle.steps.specs.Results.{listed, on_front}
+use Rattle.tables.proofs.GoodPage.{parse-relabel, page_of_cells}
+use Rattle.tables.proofs.Exactly.{Exactly}
 use Rattle.laws.specs.Final.{unmarked}
 use Rattle.laws.specs.Afresh.{site_in}
-use Rattle.layout.specs.Public.{Replied}
-use Rattle.layout.proofs.Accepted.{passes, again_passes}
-use Rattle.outcomes.proofs.LayoutLaws.{layout-gives}
-use Rattle.outcomes.proofs.Relayout.{relayout-gives}
-use Rattle.listing.specs.Asides.{asides, asides_needed}
-use Rattle.listing.specs.Laid.{relaid_nodes}
-use Rattle.listing.specs.Members.{Aside, Grows, listed-exactly, asides_grow}
+use Rattle.listing.specs.Asides.{asides}
+use Rattle.listing.specs.Members.{Aside, Grows}
 
 -- the node numbers of records
 abbrev pub nodes_of : List Candidate → List ℕ
@@ -52,63 +34,9 @@ unmark : (ws : List ℕ) (xs : List Float) (es : List ℕ) → map_t unmarked (p
 unfolding page_of site_at named
 unmark ws xs es = sym (parse-relabel unmarked (site_at ws xs es 0) (site_at ws xs [] 0) (λ i. refl) (nodes_in ws))
 
-blank_page : (ws : List ℕ) (xs : List Float) → map_t site_in (map_t blank (page_of ws xs [])) ≡ page_of ws xs []
+pub blank_page : (ws : List ℕ) (xs : List Float) → map_t site_in (map_t blank (page_of ws xs [])) ≡ page_of ws xs []
 unfolding blank
 blank_page ws xs = map_map_t site_in blank (page_of ws xs []) ∙ unmark ws xs []
 
-cells_page : (ws : List ℕ) (xs rs : List Float) (ms es : List ℕ) → map_t site_in (cells_of ws xs rs ms es) ≡ page_of ws xs []
+pub cells_page : (ws : List ℕ) (xs rs : List Float) (ms es : List ℕ) → map_t site_in (cells_of ws xs rs ms es) ≡ page_of ws xs []
 cells_page ws xs rs ms es = sym (map_map_t unmarked (λ (c : Cell). c.site) (cells_of ws xs rs ms es)) ∙ ap (map_t unmarked) (sym (page_of_cells ws xs rs ms es)) ∙ unmark ws xs es
-
--- either call, from the page whose rows it leaves
-nodes_by : (t : Tree Cell) (q : LayoutInput) (p : Tree Site) → map_t site_in t ≡ p → LeavesT leaf_site p → nodes_of (candidates (relaid t q).rows) ≡ asides p
-nodes_by t q p e g = relaid_nodes t q (rw e g) ∙ ap asides e
-
-count_by : (l : List Candidate) (p : Tree Site) → nodes_of l ≡ asides p → length l ≡ needed p
-count_by l p e = sym (length-map l (λ (c : Candidate). c.node)) ∙ ap length e ∙ asides_needed p
-
-grow_page : (ws : List ℕ) (xs : List Float) → GoodTable ws → Grows 1 (nodes_in ws) (asides (page_of ws xs []))
-grow_page ws xs good = rw (← (good_page ws good xs []).count) (asides_grow (page_of ws xs []))
-
-module _ (ws : List ℕ) (xs : List Float) (good : GoodTable ws) (u : Tested) (t : Tree Row) (rs : List Float) (ms cw : List ℕ) (cx : List Float) (a : Answer) (rs' : List Float) (ms' cw' : List ℕ) (cx' : List Float)
-    (call : Replied (tested u (replied (nodes_in ws) t rs ms cw cx) rs ms cw cx) a rs' ms' cw' cx') where
-  lists-by : (k : ℕ) → u ≡ Pass → Sound (bad_row (rows_out t)) (nodes_in ws) → k ≡ length (candidates t) → nodes_of (candidates t) ≡ asides (page_of ws xs []) → Lists ws xs k cw cx cw' cx'
-  unfolding tested replied over_limit accepted
-  lists-by k pass small e m =
-      let c = rw (pass, nowhere-lowest (bad_row (rows_out t)) (nodes_in ws) small) at call in
-      record {
-        records = candidates t;
-        nodes = m;
-        exact = λ i. rw m (listed-exactly ws xs good i);
-        grow = rw m (grow_page ws xs good);
-        counted = e;
-        as_needed = e ∙ count_by (candidates t) (page_of ws xs []) m;
-        words = c.words_are;
-        numbers = c.numbers_are;
-      }
-
-module _ (ws : List ℕ) (xs rs : List Float) (ms cw : List ℕ) (cx : List Float) (q : LayoutInput) where
-  -- the candidates of a layout that passes the tests
-  pub layout-nodes : layout_tested ws xs rs ms cw cx q ≡ Pass → nodes_of (candidates (fresh (page_of ws xs []) q).rows) ≡ asides (page_of ws xs [])
-  unfolding fresh
-  layout-nodes pass = nodes_by (map_t blank (page_of ws xs [])) q (page_of ws xs []) (blank_page ws xs) (good_page ws (passes ws xs rs ms cw cx q pass).good xs []).leaves
-
-  -- an accepted layout
-  pub layout-lists : (k : ℕ) (a : Answer) (rs' : List Float) (ms' cw' : List ℕ) (cx' : List Float) → Replied (layout_result ws xs rs ms cw cx q) a rs' ms' cw' cx' → a ≡ Done k → Lists ws xs k cw cx cw' cx'
-  unfolding layout_result
-  layout-lists k a rs' ms' cw' cx' call e =
-      let g = (layout-gives ws xs rs ms cw cx q a rs' ms' cw' cx' call (Done k)).only e in
-      let pass = (layout-exactly ws xs rs ms cw cx q Pass).given g.0 in
-      lists-by ws xs (passes ws xs rs ms cw cx q pass).good (layout_tested ws xs rs ms cw cx q) (fresh (page_of ws xs []) q).rows rs ms cw cx a rs' ms' cw' cx' call k pass g.1 g.2 (layout-nodes pass)
-
-module _ (ws : List ℕ) (xs rs : List Float) (ms cw : List ℕ) (cx : List Float) (es : List ℕ) (q : LayoutInput) where
-  -- the candidates of a relayout that passes the tests, whatever the old rows
-  pub relayout-nodes : relayout_tested ws xs rs ms cw cx es q ≡ Pass → nodes_of (candidates (relaid (cells_of ws xs rs ms es) q).rows) ≡ asides (page_of ws xs [])
-  relayout-nodes pass = nodes_by (cells_of ws xs rs ms es) q (page_of ws xs []) (cells_page ws xs rs ms es) (good_page ws (again_passes ws xs rs ms cw cx es q pass).good xs []).leaves
-
-  -- an accepted relayout
-  pub relayout-lists : (k : ℕ) (a : Answer) (rs' : List Float) (ms' cw' : List ℕ) (cx' : List Float) → Replied (relayout_result ws xs rs ms cw cx es q) a rs' ms' cw' cx' → a ≡ Done k → Lists ws xs k cw cx cw' cx'
-  unfolding relayout_result
-  relayout-lists k a rs' ms' cw' cx' call e =
-      let g = (relayout-gives ws xs rs ms cw cx es q a rs' ms' cw' cx' call (Done k)).only e in
-      let pass = (relayout-exactly ws xs rs ms cw cx q es Pass).given g.0 in
-      lists-by ws xs (again_passes ws xs rs ms cw cx es q pass).good (relayout_tested ws xs rs ms cw cx es q) (relaid (cells_of ws xs rs ms es) q).rows rs ms cw cx a rs' ms' cw' cx' call k pass g.1 g.2 (relayout-nodes pass)

@@ -5,7 +5,8 @@ use Rattle.steps.specs.Question.{root_input}
 use Rattle.steps.specs.Results.{layout_result}
 use Rattle.steps.specs.declared.Answer.TheVariants.{Done}
 use Rattle.day.specs.Day.{Day, relayout_of}
-use Rattle.day_claims.specs.Replay.{Starts, replay_is_fresh}
+use Rattle.day_claims.specs.Replay.{Starts}
+use Rattle.day_claims.proofs.Replay.{replay_is_fresh}
 use Rattle.panels.specs.Panels.{Which, Panels, PanelEvent, view, own, panels_after}
 use Rattle.panels.proofs.Alone.{each_alone}
 

@@ -1,7 +1,7 @@
 -- No event changes how long rows and marks are, nor how many nodes there are.
-use Rattle.std.specs.Prelude.{◌≡◌, refl, Bool, true, false, ◌||◌, List, [], ◌∷◌, ℕ, ◌+◌, ◌*◌, ◌/◌, length, Float}
+use Rattle.std.specs.Prelude.{◌≡◌, refl, Bool, true, false, ◌||◌, List, [], ℕ, ◌+◌, ◌*◌, ◌/◌, length, Float}
 use Rattle.std.proofs.Math.Path.{sym, ap}
-use Rattle.std.proofs.Common.{◌∙◌, subst, length-set}
+use Rattle.std.proofs.Common.{◌∙◌, length-set}
 use Rattle.std.proofs.Math.ListN.{length-replicate}
 use Rattle.geometry.specs.Geometry.{zero_f}
 use Rattle.limits.specs.Bools.{or_left}
@@ -25,13 +25,9 @@ use Rattle.tables.proofs.Passing.{then_pass_1, then_pass_2, if_pass, good_table}
 use Rattle.tables.proofs.GoodPage.{good_page, good-cells}
 use Rattle.laws.specs.Shape.{relaid_shape, fresh_shape}
 use Rattle.sheet.specs.Sheet.{Sheet, has_number, has_word, edit_of, number_edit, word_edit}
-use Rattle.day.specs.Day.{Day, edits_of, layout_of, relayout_of, edit_event, call_event, event_result, day_after}
+use Rattle.day.specs.Day.{Day, edits_of, layout_of, relayout_of}
 use Rattle.sheet.specs.declared.NodeNumber.{NodeNumber}
 use Rattle.sheet.specs.declared.NodeWord.{NodeWord}
-use Rattle.day.specs.declared.Event.{Event}
-use Rattle.day.specs.declared.Event.TheVariants as event
-use Rattle.panels.specs.Panels.{Which, Panels, PanelEvent, view, own, panels_after}
-use Rattle.panels.proofs.Alone.{each_alone}
 
 -- rows and marks as long as the node table asks for
 pub record Fits (d : Day) : Type 0 where
@@ -41,7 +37,7 @@ pub record Fits (d : Day) : Type 0 where
 -- ---- a call
 
 -- rows and marks of n nodes
-abbrev Long : ℕ → List Float → List ℕ → Type 0
+abbrev pub Long : ℕ → List Float → List ℕ → Type 0
 Long n rs ms = (length rs ≡ 16 * n) × (length ms ≡ 2 * n)
 
 out_long : (t : Tree Row) (n : ℕ) → count_t t ≡ n → Long n (rows_out t) (marks_out t)
@@ -77,41 +73,22 @@ module _ (ws : List ℕ) (xs rs : List Float) (ms cw : List ℕ) (cx : List Floa
       let g = lent-good (then_pass_1 (layout_tested ws xs rs ms cw cx q) (and_then (no6 es (nodes_in ws)) (no7 ms)) e) in
       sym (count_map_t mute (relaid (cells_of ws xs rs ms es) q).rows) ∙ ap count_t (relaid_shape (cells_of ws xs rs ms es) q) ∙ count_map_t mute (cells_of ws xs rs ms es) ∙ (good-cells ws (good_table ws xs q g.0 g.1) xs rs ms es).count
 
-layout_long : (d : Day) → Fits d → Long (nodes_in d.page.words) (layout_of d).rows (layout_of d).marks
+pub layout_long : (d : Day) → Fits d → Long (nodes_in d.page.words) (layout_of d).rows (layout_of d).marks
 unfolding layout_result
 layout_long d f = reply-long _ _ d.rows d.marks d.pairs d.triples (f.rows, f.marks) (layout_tested d.page.words d.page.numbers d.rows d.marks d.pairs d.triples (root_input d.question)) (fresh_count d.page.words d.page.numbers d.rows d.marks d.pairs d.triples (root_input d.question))
 
-relayout_long : (d : Day) → Fits d → Long (nodes_in d.page.words) (relayout_of d).rows (relayout_of d).marks
+pub relayout_long : (d : Day) → Fits d → Long (nodes_in d.page.words) (relayout_of d).rows (relayout_of d).marks
 unfolding relayout_result
 relayout_long d f = reply-long _ _ d.rows d.marks d.pairs d.triples (f.rows, f.marks) (relayout_tested d.page.words d.page.numbers d.rows d.marks d.pairs d.triples (edits_of d.page) (root_input d.question)) (relaid_count d.page.words d.page.numbers d.rows d.marks d.pairs d.triples (root_input d.question) (edits_of d.page))
 
 -- ---- an edit
 
-number_nodes : (x : NodeNumber) (s : Sheet) (b : Bool) → has_number x s ≡ b → nodes_in (number_edit x s).words ≡ nodes_in s.words
+pub number_nodes : (x : NodeNumber) (s : Sheet) (b : Bool) → has_number x s ≡ b → nodes_in (number_edit x s).words ≡ nodes_in s.words
 unfolding number_edit edit_of
 number_nodes x s true e = rw e
 number_nodes x s false e = rw e
 
-word_nodes : (x : NodeWord) (s : Sheet) (b : Bool) → has_word x s ≡ b → nodes_in (word_edit x s).words ≡ nodes_in s.words
+pub word_nodes : (x : NodeWord) (s : Sheet) (b : Bool) → has_word x s ≡ b → nodes_in (word_edit x s).words ≡ nodes_in s.words
 unfolding word_edit edit_of
 word_nodes x s true e = rw e (ap (λ (n : ℕ). n / 4) (length-set s.words (x.node.0 * 4 + x.word) x.bits))
 word_nodes x s false e = rw e
-
--- ---- events
-
-event_fits : (e : Event) (d : Day) → Fits d → Fits (event_result e d).after
-unfolding event_result edit_event call_event
-event_fits (event.Number x) d f = let z = number_nodes x d.page (has_number x d.page) refl in record { rows = rw z f.rows; marks = rw z f.marks }
-event_fits (event.Word x) d f = let z = word_nodes x d.page (has_word x d.page) refl in record { rows = rw z f.rows; marks = rw z f.marks }
-event_fits (event.Ask a) d f = record { rows = f.rows; marks = f.marks }
-event_fits event.Relayout d f = let z = relayout_long d f in record { rows = z.0; marks = z.1 }
-event_fits event.Layout d f = let z = layout_long d f in record { rows = z.0; marks = z.1 }
-
-day_fits : (es : List Event) (d : Day) → Fits d → Fits (day_after es d)
-unfolding day_after
-day_fits [] d f = f
-day_fits (e ∷ es) d f = day_fits es (event_result e d).after (event_fits e d f)
-
--- A panel whose rows fit at the start has rows that fit after any events of both.
-pub panels_fit : (w : Which) (s : Panels) → Fits (view w s) → (ts : List PanelEvent) → Fits (view w (panels_after ts s))
-panels_fit w s f ts = subst Fits (sym (each_alone w ts s)) (day_fits (own w ts) (view w s) f)

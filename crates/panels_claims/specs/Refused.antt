@@ -1,25 +1,21 @@
 -- A table that fails 1 to 4 is refused to both panels, with one number and place, until it is mended. 4 at place n is a panel's own.
 use Rattle.std.specs.Prelude.{◌≡◌, refl, Bool, true, false, ◌||◌, List, [], ◌∷◌, ℕ, ◌*◌, length, Float}
-use Rattle.std.proofs.Common.{sym, ◌∙◌, true≢false, eq-eqb}
-use Rattle.std.proofs.Math.Path.{ap}
+use Rattle.std.proofs.Common.{◌∙◌, true≢false, eq-eqb}
 use Rattle.limits.specs.Bools.{or_left, or_right}
 use Rattle.steps.specs.Scan.{lowest}
 use Rattle.steps.specs.Page.{nodes_in}
-use Rattle.steps.specs.Noes.{refuse_if, and_then, at_fault, bad_tables, bad_rows, bad_numbers, bad_question, no2, no3, no4, no5, page_tested, layout_tested, relayout_tested}
-use Rattle.steps.specs.Question.{root_input}
-use Rattle.steps.specs.Results.{Reply, tested, layout_result, relayout_result}
+use Rattle.steps.specs.Noes.{refuse_if, and_then, at_fault, bad_tables, bad_rows, bad_numbers, bad_question, no2, no3, no4, no5, page_tested, layout_tested}
+use Rattle.steps.specs.Results.{Reply}
 use Rattle.steps.specs.declared.LayoutInput.{LayoutInput}
 use Rattle.steps.specs.declared.Answer.{Answer}
 use Rattle.steps.specs.declared.Answer.TheVariants.{Lengths, Numbers}
 use Rattle.steps.specs.declared.Tested.{Tested}
 use Rattle.steps.specs.declared.Tested.TheVariants.{Pass, Refuse}
-use Rattle.tables.proofs.Passing.{no_pass}
-use Rattle.day.specs.Day.{Day, layout_of, relayout_of, edit_event, call_event, event_result}
+use Rattle.day.specs.Day.{Day, edit_event, call_event, event_result}
 use Rattle.day.specs.declared.Event.{Event}
 use Rattle.day.specs.declared.Event.TheVariants as event
-use Rattle.panels.specs.Panels.{Which, hall, kitchen, other, Panels, panel_of, view, together, PanelEvent, of, panel_result, both_of, panels_next, panels_after, table_edit}
+use Rattle.panels.specs.Panels.{Which, hall, kitchen, Panels, view, together, PanelEvent, of, panel_result, both_of, panels_next, panels_after, table_edit}
 use Rattle.panels.specs.Alone.{table}
-use Rattle.panels_claims.specs.Lengths.{Fits, panels_fit}
 
 -- 1 to 4 by the node table alone
 unfoldable pub table_tested : List ℕ → List Float → Tested
@@ -50,35 +46,14 @@ tests_in_order ws xs rs ms cw cx q lr lm =
     (regroup (refuse_if (bad_tables ws xs) Lengths) (no2 ws) (no3 ws xs) (at_fault Numbers (lowest (bad_numbers ws xs) (nodes_in ws))) (refuse_if (bad_question q) (Numbers (nodes_in ws))) (no5 ws xs cw cx))
 
 -- a call that these tests refuse: the answer is theirs, and all stays as lent
-abbrev AsLent : Answer → Day → Reply
+abbrev pub AsLent : Answer → Day → Reply
 AsLent a d = record { answer = a; rows = d.rows; marks = d.marks; words = d.pairs; numbers = d.triples }
 
-module _ (d : Day) (a : Answer) (lr : length d.rows ≡ 16 * nodes_in d.page.words) (lm : length d.marks ≡ 2 * nodes_in d.page.words) where
-  abbrev first-tests : Tested
-  first-tests = and_then (table_tested d.page.words d.page.numbers) (refuse_if (bad_question (root_input d.question)) (Numbers (nodes_in d.page.words)))
-
-  deeper : (x y z : Tested) → and_then x y ≡ Refuse a → and_then x (and_then y z) ≡ Refuse a
-  unfolding and_then
-  deeper Pass Pass z e = no_pass (sym e)
-  deeper Pass (Refuse b) z e = e
-  deeper (Refuse b) y z e = e
-
-  refused-first : first-tests ≡ Refuse a → layout_tested d.page.words d.page.numbers d.rows d.marks d.pairs d.triples (root_input d.question) ≡ Refuse a
-  refused-first e = tests_in_order _ _ _ _ _ _ _ lr lm ∙ deeper _ _ _ e
-
-  layout_refused : first-tests ≡ Refuse a → layout_of d ≡ AsLent a d
-  unfolding layout_result tested
-  layout_refused e = rw (refused-first e)
-
-  relayout_refused : first-tests ≡ Refuse a → relayout_of d ≡ AsLent a d
-  unfolding relayout_result relayout_tested tested and_then
-  relayout_refused e = rw (refused-first e)
-
-table_first : (a : Answer) (x y : Tested) → x ≡ Refuse a → and_then x y ≡ Refuse a
+pub table_first : (a : Answer) (x y : Tested) → x ≡ Refuse a → and_then x y ≡ Refuse a
 unfolding and_then
 table_first a x y e = rw e
 
-question_first : (a : Answer) (x : Tested) (b : Bool) → x ≡ Pass → b ≡ true → and_then x (refuse_if b a) ≡ Refuse a
+pub question_first : (a : Answer) (x : Tested) (b : Bool) → x ≡ Pass → b ≡ true → and_then x (refuse_if b a) ≡ Refuse a
 unfolding and_then
 question_first a x b e h = rw (e, h)
 
@@ -96,26 +71,6 @@ is_call event.Layout = true
 abbrev pub answer_of : Which → Event → Panels → Answer
 answer_of w e s = (both_of (of w e) s).own.answer
 
-module _ (a : Answer) (w : Which) (s : Panels) (f : Fits (view w s)) where
-  abbrev own-tests : Tested
-  own-tests = and_then (table_tested s.words s.numbers) (refuse_if (bad_question (root_input (panel_of w s).question)) (Numbers (nodes_in s.words)))
-
-  call-refused : (e : Event) → is_call e ≡ true → own-tests ≡ Refuse a → answer_of w e s ≡ a
-  unfolding is_call both_of panel_result view event_result call_event
-  call-refused (event.Number x) c h = absurd (true≢false (sym c))
-  call-refused (event.Word x) c h = absurd (true≢false (sym c))
-  call-refused (event.Ask q) c h = absurd (true≢false (sym c))
-  call-refused event.Relayout c h = ap (λ (r : Reply). r.answer) (relayout_refused (view w s) a f.rows f.marks h)
-  call-refused event.Layout c h = ap (λ (r : Reply). r.answer) (layout_refused (view w s) a f.rows f.marks h)
-
--- After any events, a table that fails 1 to 4 by itself: each call of each panel is refused with that number and place, whatever its question, rows, list and room.
-pub refused_to_both : (s : Panels) → ((w : Which) → Fits (view w s)) → (ts : List PanelEvent) (a : Answer) → table_tested (panels_after ts s).words (panels_after ts s).numbers ≡ Refuse a → (w : Which) (e : Event) → is_call e ≡ true → answer_of w e (panels_after ts s) ≡ a
-refused_to_both s f ts a h w e c = call-refused a w (panels_after ts s) (panels_fit w s (f w) ts) e c (table_first a _ _ h)
-
--- A question that fails 4 is refused at place n, to the panel that asks it.
-pub own_question : (s : Panels) (w : Which) → Fits (view w s) → (ts : List PanelEvent) → table_tested (panels_after ts s).words (panels_after ts s).numbers ≡ Pass → bad_question (root_input (panel_of w (panels_after ts s)).question) ≡ true → (e : Event) → is_call e ≡ true → answer_of w e (panels_after ts s) ≡ Numbers (nodes_in (panels_after ts s).words)
-own_question s w f ts p q e c = call-refused (Numbers (nodes_in (panels_after ts s).words)) w (panels_after ts s) (panels_fit w s f ts) e c (question_first (Numbers (nodes_in (panels_after ts s).words)) _ _ p q)
-
 -- ---- until it is mended
 
 -- is there an edit of the table among these events?
@@ -131,7 +86,7 @@ event_table (event.Ask a) d n = refl
 event_table event.Relayout d n = refl
 event_table event.Layout d n = refl
 
-abbrev both_table : Panels → List ℕ × List Float
+abbrev pub both_table : Panels → List ℕ × List Float
 both_table s = (s.words, s.numbers)
 
 next_table : (v : Which) (e : Event) (s : Panels) → table_edit e ≡ false → both_table (panels_next (of v e) s) ≡ both_table s
@@ -139,11 +94,7 @@ unfolding panels_next together both_of panel_result view
 next_table hall e s n = event_table e (view hall s) n
 next_table kitchen e s n = event_table e (view kitchen s) n
 
-table_stays : (ts : List PanelEvent) (s : Panels) → edit_in ts ≡ false → both_table (panels_after ts s) ≡ both_table s
+pub table_stays : (ts : List PanelEvent) (s : Panels) → edit_in ts ≡ false → both_table (panels_after ts s) ≡ both_table s
 unfolding panels_after edit_in
 table_stays [] s n = refl
 table_stays (t ∷ ts) s n = table_stays ts (panels_next t s) (or_right (table_edit t.event) (edit_in ts) n) ∙ next_table t.panel t.event s (or_left (table_edit t.event) (edit_in ts) n)
-
--- So it goes on for every call of both, until a node is edited.
-pub until_mended : (s : Panels) → ((w : Which) → Fits (view w s)) → (a : Answer) → table_tested s.words s.numbers ≡ Refuse a → (ts : List PanelEvent) → edit_in ts ≡ false → (w : Which) (e : Event) → is_call e ≡ true → answer_of w e (panels_after ts s) ≡ a
-until_mended s f a h ts n w e c = refused_to_both s f ts a (ap (λ (p : List ℕ × List Float). table_tested p.0 p.1) (table_stays ts s n) ∙ h) w e c
