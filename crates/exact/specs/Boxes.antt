@@ -15,7 +15,8 @@ use Rattle.style.specs.declared.Style.{Style}
 use Rattle.steps.specs.Sizing.{decided, known_axis, step_b, filled, step_d, known_of, bar_of}
 use Rattle.steps.specs.declared.Sizing.{Sizing}
 use Rattle.whole.specs.Test.{pixel, number}
-use Rattle.whole.specs.Range.{within_le, pixel_within, zero_is}
+use Rattle.whole.specs.Range.{within_le, zero_is}
+use Rattle.whole.proofs.Range.{pixel_within}
 use Rattle.integers.specs.Numbers.{MayZ, NoneZ, SomeZ, SizeMay, RectZ, across_z, down_z, plus_z}
 use Rattle.integers.specs.Boxes.{BoxZ, box_size_z, box_both_z, box_of_z, decided_z, known_axis_z, known_z, bar_of_z}
 use Rattle.profile.specs.Page.{InProfile}

@@ -1,5 +1,5 @@
 -- A whole float with its range, from -l to h, so that what a sum asks is arithmetic on naturals. Assumes nothing.
-use Rattle.std.specs.Prelude.{◌≡◌, refl, Bool, true, false, cond, ℕ, zero, suc, ◌+◌, ◌-◌, ◌^◌, ◌≤◌, ◌<◌, min, max, T, ltb, ℤ, pos, negsuc, neg_ℤ, nat_abs, ◌+ℤ◌, ◌-ℤ◌, Float}
+use Rattle.std.specs.Prelude.{◌≡◌, refl, Bool, true, false, cond, ℕ, zero, suc, ◌+◌, ◌-◌, ◌^◌, ◌≤◌, ◌<◌, min, max, ltb, ℤ, pos, negsuc, neg_ℤ, ◌+ℤ◌, ◌-ℤ◌, Float}
 use Rattle.std.proofs.Common.{sym, ◌∙◌, true≢false, zero-le, le_refl, le_trans, arith, ltb-true, ltb-false, lt-ltb}
 use Rattle.std.proofs.Math.IntN.{sub_ℕ}
 use Rattle.std.specs.Int.Signed.{lt_z, le_z}
@@ -11,7 +11,6 @@ use Rattle.limits.specs.Laws as limits
 use Rattle.util.specs.Math.{larger, smaller}
 use Rattle.whole.specs.Whole.{Whole, small, add_whole, neg_whole}
 use Rattle.whole.specs.Compare.{eq_z, lt_whole, le_whole, eq_whole}
-use Rattle.whole.specs.Test.{pixel, number, pixel_whole}
 use Rattle.whole.specs.More.{max_z, min_z, larger_whole, smaller_whole}
 
 -- how far k is below 0, and above it: one of the two is 0
@@ -213,13 +212,3 @@ over_limit_lem {x} {k} {l} {h} p v = lt_whole (fin true 1 (pos 24)) x (negsuc 16
 -- strictly inside: refusal 8 is not given
 pub within_limit : {x : Float} {k : ℤ} {l h : ℕ} → Within x k l h → l < 2 ^ 24 → h < 2 ^ 24 → too_large x ≡ false
 within_limit {x} p u v = sym (limits.small x (under_limit p v) (over_limit_lem p u))
-
--- a page's number that passes the test
-pub pixel_within : (x : Float) → T (pixel x) → Within x (number x) 1024 1024
-pixel_within x t =
-    let p = pixel_whole x t in
-    record { whole = p.0; low = (ends (number x) p.1).0; high = (ends (number x) p.1).1 }
-  where
-    ends : (k : ℤ) → nat_abs k ≤ 1024 → (under k ≤ 1024) × (above k ≤ 1024)
-    ends (pos n) h = (zero-le, h)
-    ends (negsuc n) h = (h, zero-le)

@@ -1,11 +1,11 @@
 -- The test whether a float is a whole number up to 1024 in size, and the number that it is. Assumes nothing.
 use Rattle.std.specs.Prelude.{◌≡◌, refl, ◌⊎◌, Bool, true, false, ◌&&◌, ◌||◌, ℕ, ◌+◌, ◌*◌, ◌/◌, ◌%◌, ◌≤◌, ◌<◌, T, leb, eqb, ℤ, pos, nat_abs, Float}
-use Rattle.std.proofs.Common.{sym, ap, ◌∙◌, subst, inl, inr, zero-mul, mul_right_comm, add-zero, mul-div_cancel, div-add-mod', eqb→eq, leb→le, le→leb}
+use Rattle.std.proofs.Common.{sym, ap, ◌∙◌, subst, inl, inr, zero-mul, mul_right_comm, add-zero, mul-div_cancel, div-add-mod', eqb→eq, leb→le}
 use Rattle.std.specs.Bool.{beq}
 use Rattle.std.proofs.Math.Nat.{eq_of_mul-eq-mul_right, mul-mod_left}
 use Rattle.std.specs.Float.{nan, inf, fin}
 use Rattle.std.specs.Float.Ieee.{up, down, eq, level}
-use Rattle.std.specs.Float.Ieee.Fits.{down_pos, and_i, and_l, and_r, eq→eqb}
+use Rattle.std.specs.Float.Ieee.Fits.{down_pos, and_l, and_r}
 use Rattle.whole.specs.Whole.{signed, Whole, abs_signed}
 
 -- ---- the test
@@ -22,7 +22,7 @@ number nan = pos 0
 number (inf s) = pos 0
 number (fin s m e) = signed s (m * up e / down e)
 
-cut : (m : ℕ) (e : ℤ) (n : ℕ) → m * up e ≡ n * down e → (m * up e / down e ≡ n) × (m * up e % down e ≡ 0)
+pub cut : (m : ℕ) (e : ℤ) (n : ℕ) → m * up e ≡ n * down e → (m * up e / down e ≡ n) × (m * up e % down e ≡ 0)
 cut m e n h = (ap (λ (z : ℕ). z / down e) h ∙ mul-div_cancel n (down_pos e), ap (λ (z : ℕ). z % down e) h ∙ mul-mod_left n (down e))
 
 pub pixel_whole : (x : Float) → T (pixel x) → Whole x (number x) × (nat_abs (number x) ≤ 1024)
@@ -35,13 +35,6 @@ pixel_whole (fin s m e) t =
     let w : a ≡ n * down e = sym (div-add-mod' a (down e)) ∙ ap (λ (z : ℕ). n * down e + z) r ∙ add-zero (n * down e) in
     let i = abs_signed s n in
     ((w ∙ ap (λ (z : ℕ). z * down e) (sym i), ap (signed s) i), rw (i) (leb→le n 1024 (and_r (eqb (a % down e) 0) (leb n 1024) t)))
-
-pub whole_pixel_lem : (x : Float) (k : ℤ) → Whole x k → nat_abs k ≤ 1024 → T (pixel x)
-whole_pixel_lem nan k p h = p
-whole_pixel_lem (inf s) k p h = p
-whole_pixel_lem (fin s m e) k p h =
-    let c = cut m e (nat_abs k) p.0 in
-    and_i (eqb (m * up e % down e) 0) (leb (m * up e / down e) 1024) (eq→eqb c.1) (le→leb (m * up e / down e) 1024 (rw c.0 h))
 
 -- ---- what compares equal to a whole number is that number
 

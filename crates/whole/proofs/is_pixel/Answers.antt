@@ -1,5 +1,5 @@
 use lib.Ieee.{of_bits, neg}
-use Rattle.whole.specs.Coarse.{pixel_in, pixel_high, pixel_low}
+use Rattle.whole.proofs.Coarse.{pixel_in, pixel_high, pixel_low}
 use Rattle.whole.proofs.is_pixel.Goals as goal
 
 -- a literal is its bit pattern, so of_bits and neg are unfolded to meet `fin s m e`

@@ -1,0 +1,4 @@
+pub mod Coarse
+pub mod Test
+pub mod CoarseLaws
+pub mod Range
