@@ -9,7 +9,7 @@ usage, at the top of the repository:
     python3 tools/port/edits.py check             whether every edit applies to the tree as it stands, by rt's own rule
 
 LANDED is the commit that the port began with, TURNED the one in which port.py and respell.py ran (docs/PORT.md).
-A pair in proofs/ is not turned: what answered a goal stands in other files now (docs/PORT-EDITS.md).
+A pair in proofs/ is not turned: what answered a goal stands in other files now (docs/PORT.md).
 """
 
 import collections

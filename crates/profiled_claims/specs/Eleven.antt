@@ -1,5 +1,5 @@
 -- 11 is given exactly if 1 to 4 are not due and the page or the question is not of the profile, at its place; and it leaves all as lent.
-use Rattle.std.specs.Prelude.{◌≡◌, refl, Bool, true, false, not, ◌||◌, List, [], ℕ, Float}
+use Rattle.std.specs.Prelude.{◌≡◌, refl, Bool, true, false, ◌||◌, List, ℕ, Float}
 use Rattle.std.proofs.Common.{sym, ◌∙◌, arith}
 use Rattle.std.proofs.Math.Path.{ap}
 use Rattle.std.proofs.lemmas.Bool.{not-false}
@@ -11,7 +11,7 @@ use Rattle.steps.specs.declared.LayoutInput.{LayoutInput}
 use Rattle.steps.specs.declared.RequestedAxis.{RequestedAxis}
 use Rattle.steps.specs.declared.SizeAnswer.{SizeAnswer}
 use Rattle.steps.specs.declared.SizeAnswer.TheVariants as plain
-use Rattle.steps.specs.Results.{layout_result, relayout_result, size_result}
+use Rattle.steps.specs.Results.{size_result}
 use Rattle.steps.specs.declared.Answer.TheVariants.{Lengths}
 use Rattle.steps.specs.declared.Tested.{Tested}
 use Rattle.steps.specs.declared.Tested.TheVariants.{Pass, Refuse}
@@ -19,18 +19,18 @@ use Rattle.steps.specs.declared.Spot.{Spot}
 use Rattle.steps.specs.declared.Spot.TheVariants.{Nowhere, At}
 use Rattle.tables.specs.Refusals.{PageSound, SizeDue}
 use Rattle.tables.proofs.Exactly.{Exactly, size-exactly}
-use Rattle.tables.proofs.Passing.{then_pass_1, then_pass_2, if_pass, no_pass}
+use Rattle.tables.proofs.Passing.{then_pass_1, then_pass_2, if_pass}
 use Rattle.tables.proofs.ScanLaws.{first-at, first-nowhere}
 use Rattle.profile.specs.Profile.{of_profile, outside, whole_question, else_at, profile_spot}
 use Rattle.profile.specs.Exact.{NodesIn, LowestOutside, node_no}
 use Rattle.profile.proofs.Exact.{question_no}
 use Rattle.tables.specs.Early.{early_tested}
-use Rattle.profiled.specs.Profiled.{profile_tested, ProfileReply, profiled_layout_result, profiled_relayout_result, of_size, size_or, profiled_size_result, yes_by, yes_or_no}
+use Rattle.profiled.specs.Profiled.{profile_tested, of_size, size_or, profiled_size_result, yes_by, yes_or_no}
 use Rattle.profiled.specs.declared.ProfileAnswer.{ProfileAnswer}
-use Rattle.profiled.specs.declared.ProfileAnswer.TheVariants.{Plain, Outside}
+use Rattle.profiled.specs.declared.ProfileAnswer.TheVariants.{Outside}
 use Rattle.profiled.specs.declared.ProfileSize.{ProfileSize}
 use Rattle.profiled.specs.declared.ProfileSize.TheVariants as size
-use Rattle.profiled_claims.specs.Cases.{eleven-at, at-eleven, no_outside, one_place}
+use Rattle.profiled_claims.specs.Cases.{no_outside, one_place}
 
 -- the place of 11: the lowest node that is not of the profile; n if the question alone is not
 pub data OutsideAt (ws : List ℕ) (xs : List Float) (q : LayoutInput) (k : ℕ) : Type 0 where
@@ -89,39 +89,6 @@ early_exactly ws xs rs ms q = record { only = there; given = back }
 
     back : EarlySound ws xs rs ms q → early_tested ws xs rs ms q ≡ Pass
     back s = rw (s.lengths, sound_page ws xs q (or_left (bad_tables ws xs) _ s.lengths) s.page)
-
--- ---- layout and relayout
-module _ (ws : List ℕ) (xs rs : List Float) (ms cw : List ℕ) (cx : List Float) (q : LayoutInput) (k : ℕ) where
-  eleven : early_tested ws xs rs ms q ≡ Pass → profile_spot ws xs q ≡ At k → EarlySound ws xs rs ms q × OutsideAt ws xs q k
-  eleven e f = ((early_exactly ws xs rs ms q).only e, (place_is ws xs q k).only f)
-
-  -- all as lent
-  abbrev pub outside_reply : ProfileReply
-  outside_reply = record { answer = Outside k; rows = rs; marks = ms; words = cw; numbers = cx }
-
-  pub layout-eleven-leaves : EarlySound ws xs rs ms q → OutsideAt ws xs q k → profiled_layout_result ws xs rs ms cw cx q ≡ outside_reply
-  unfolding profiled_layout_result
-  layout-eleven-leaves s o = at-eleven (layout_result ws xs rs ms cw cx q) rs ms cw cx (early_tested ws xs rs ms q) (profile_spot ws xs q) k ((early_exactly ws xs rs ms q).given s) ((place_is ws xs q k).given o)
-
-  pub layout-eleven : Exactly ((profiled_layout_result ws xs rs ms cw cx q).answer ≡ Outside k) (EarlySound ws xs rs ms q × OutsideAt ws xs q k)
-  unfolding profiled_layout_result
-  layout-eleven =
-      record {
-        only = λ e. (let z = eleven-at (layout_result ws xs rs ms cw cx q) rs ms cw cx (early_tested ws xs rs ms q) (profile_spot ws xs q) k e in eleven z.0 z.1);
-        given = λ g. ap (λ (r : ProfileReply). r.answer) (layout-eleven-leaves g.0 g.1);
-      }
-
-  pub relayout-eleven-leaves : (es : List ℕ) → EarlySound ws xs rs ms q → OutsideAt ws xs q k → profiled_relayout_result ws xs rs ms cw cx es q ≡ outside_reply
-  unfolding profiled_relayout_result
-  relayout-eleven-leaves es s o = at-eleven (relayout_result ws xs rs ms cw cx es q) rs ms cw cx (early_tested ws xs rs ms q) (profile_spot ws xs q) k ((early_exactly ws xs rs ms q).given s) ((place_is ws xs q k).given o)
-
-  pub relayout-eleven : (es : List ℕ) → Exactly ((profiled_relayout_result ws xs rs ms cw cx es q).answer ≡ Outside k) (EarlySound ws xs rs ms q × OutsideAt ws xs q k)
-  unfolding profiled_relayout_result
-  relayout-eleven es =
-      record {
-        only = λ e. (let z = eleven-at (relayout_result ws xs rs ms cw cx es q) rs ms cw cx (early_tested ws xs rs ms q) (profile_spot ws xs q) k e in eleven z.0 z.1);
-        given = λ g. ap (λ (r : ProfileReply). r.answer) (relayout-eleven-leaves es g.0 g.1);
-      }
 
 -- ---- the yes or no, and the size question
 no_by : (t : Tested) (s : Spot) (k : ℕ) → yes_by (profile_tested t s) ≡ Outside k → (t ≡ Pass) × (s ≡ At k)

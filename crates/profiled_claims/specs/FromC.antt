@@ -1,10 +1,9 @@
 -- The yes exactly; and 11 from C, by the number and place in the word that a call returns.
-use Rattle.std.specs.Prelude.{◌≡◌, refl, true, List, [], ℕ, Float}
+use Rattle.std.specs.Prelude.{◌≡◌, refl, true, List, ℕ, Float}
 use Rattle.std.proofs.Common.{sym, ap, ◌∙◌, subst, arith}
-use Rattle.steps.specs.Noes.{paper, size_tested}
+use Rattle.steps.specs.Noes.{size_tested}
 use Rattle.steps.proofs.Answers.{paper-nine}
 use Rattle.steps.specs.declared.LayoutInput.{LayoutInput}
-use Rattle.steps.specs.declared.Answer.{Answer}
 use Rattle.steps.specs.declared.Answer.TheVariants.{Done}
 use Rattle.steps.specs.declared.Tested.{Tested}
 use Rattle.steps.specs.declared.Tested.TheVariants.{Pass, Refuse}
@@ -14,13 +13,12 @@ use Rattle.tables.specs.Refusals.{SizeDue}
 use Rattle.tables.proofs.Exactly.{Exactly, size-exactly}
 use Rattle.profile.specs.Profile.{whole_question, profile_spot}
 use Rattle.profile.specs.Exact.{NodesIn, yes_told, told_yes}
-use Rattle.profiled.specs.Profiled.{profile_paper, profile_tested, profiled_layout_result, profiled_relayout_result, yes_by, yes_or_no}
+use Rattle.profiled.specs.Profiled.{profile_paper, profile_tested, yes_by, yes_or_no}
 use Rattle.profiled.specs.declared.ProfileAnswer.{ProfileAnswer}
 use Rattle.profiled.specs.declared.ProfileAnswer.TheVariants.{Plain, Outside}
 use Rattle.asked.specs.Halves.{Halves}
-use Rattle.face.specs.AsProfile.{ProfileAnswered}
 use Rattle.profiled_claims.specs.Cases.{no_plain, plain_answer}
-use Rattle.profiled_claims.specs.Eleven.{OutsideAt, EarlySound, layout-eleven, relayout-eleven, no-eleven}
+use Rattle.profiled_claims.specs.Eleven.{OutsideAt, no-eleven}
 
 -- ---- the yes
 yes_by_lem : {C : Type 0} (t : Tested) (s : Spot) → yes_by (profile_tested t s) ≡ Plain (Done 0) → (t ≡ Refuse (Done 0) → C) → (t ≡ Pass → s ≡ Nowhere → C) → C
@@ -61,19 +59,12 @@ paper_outside : (a : ProfileAnswer) (k : ℕ) → a ≡ Outside k → profile_pa
 unfolding profile_paper
 paper_outside a k e = rw e
 
-by_word : {G : Type 0} (a : ProfileAnswer) (k r : ℕ) → Halves (profile_paper a) r → Exactly (a ≡ Outside k) G → Exactly (Halves (11, k) r) G
+pub by_word : {G : Type 0} (a : ProfileAnswer) (k r : ℕ) → Halves (profile_paper a) r → Exactly (a ≡ Outside k) G → Exactly (Halves (11, k) r) G
 by_word a k r h e =
     record {
       only = λ w. e.only (outside_paper a k (one_pair (profile_paper a) (11, k) r h w));
       given = λ g. subst (λ (p : ℕ × ℕ). Halves p r) (paper_outside a k (e.given g)) h;
     }
-
-module _ (ws : List ℕ) (xs rs : List Float) (ms cw : List ℕ) (cx : List Float) (q : LayoutInput) (k r : ℕ) (rs' : List Float) (ms' cw' : List ℕ) (cx' : List Float) where
-  pub c-layout-eleven : ProfileAnswered (profiled_layout_result ws xs rs ms cw cx q) r rs' ms' cw' cx' → Exactly (Halves (11, k) r) (EarlySound ws xs rs ms q × OutsideAt ws xs q k)
-  c-layout-eleven c = by_word _ k r c.answer_is (layout-eleven ws xs rs ms cw cx q k)
-
-  pub c-relayout-eleven : (es : List ℕ) → ProfileAnswered (profiled_relayout_result ws xs rs ms cw cx es q) r rs' ms' cw' cx' → Exactly (Halves (11, k) r) (EarlySound ws xs rs ms q × OutsideAt ws xs q k)
-  c-relayout-eleven es c = by_word _ k r c.answer_is (relayout-eleven ws xs rs ms cw cx q k es)
 
 pub c_no_eleven : (ws : List ℕ) (xs : List Float) (q : LayoutInput) (k r : ℕ) → Halves (profile_paper (yes_or_no ws xs q)) r → Exactly (Halves (11, k) r) (SizeDue ws xs q Pass × OutsideAt ws xs q k)
 c_no_eleven ws xs q k r h = by_word _ k r h (no-eleven ws xs q k)

@@ -1,0 +1,2 @@
+pub mod FromC
+pub mod Eleven
