@@ -1,7 +1,7 @@
 #!/usr/bin/env python3
 """Turns a crate's Proof.antt files of the older form (answers to a tie's needs, by places) into Answers.antt and Invariants.antt.
 
-usage: python3 tools/port/answers.py NAMES.json CRATE_FOLDER [FUNCTION..]
+usage: python3 tools/port/answers.py NAMES.json crates/CRATE [FUNCTION..]   at the top of the repository, committed: it replaces files
 
 NAMES.json is what `rt check --generated DIR --old-names` writes in the crate. A file that cites places as types is left.
 """
@@ -169,6 +169,14 @@ class Fn:
         return own or [new] + rest
 
 
+def equation(name, eqs):
+    """The binders of an equation and its right side."""
+    h = re.match(r"^\S+((?:\s+[^\s=]+)*)\s+=\s*", eqs)
+    if not h:
+        raise Left("equations of " + name)
+    return h[1].split(), eqs[h.end() :]
+
+
 def named_places(body, binder):
     """A name for a place is the place."""
     while True:
@@ -230,11 +238,7 @@ def turned(body, binder, fn, chain, over={}, unfoldings=[]):
     return re.sub(r"\(?not-(?:true|false) _ (c\.(?:if|loop)-[\w.-]*not-[\w-]+\.(?:true|false))(\)?)", lambda m: m[1] if m[0].startswith("(") and m[2] else m[1] + m[2] if not m[0].startswith("(") else "(" + m[1] + m[2], text)
 
 
-def loops_of(fn):
-    return fn.of.get("loops") or []
-
-
-def convert(text, path, crate, of, keep_trivial=False):
+def convert(text, path, crate, of):
     """of: the entry of the function, or for a cycle the entry of each by its name."""
     cycle = path.rsplit("/", 1)[-1].startswith("+")
     fns = {}
@@ -311,11 +315,7 @@ def convert(text, path, crate, of, keep_trivial=False):
             continue
         new, at = goal
         new = fn.of["stem"] + new
-        h = re.match(r"^\S+((?:\s+[^\s=]+)*)\s+=\s*", eqs)
-        if not h:
-            raise Left("equations of " + name)
-        binders = h[1].split()
-        body = eqs[h.end() :]
+        binders, body = equation(name, eqs)
         front = []
         if deep:
             front, binders = binders[:1], binders[1:]
@@ -328,8 +328,6 @@ def convert(text, path, crate, of, keep_trivial=False):
         if more_unf:
             words = sorted({w for line in unf + more_unf for w in line.replace("unfolding", "").split()})
             unf = ["unfolding " + " ".join(words)]
-        if body.strip() in TRIVIAL and not unf and not keep_trivial:
-            continue
         if body.strip() in TRIVIAL and "unfolding" not in "\n".join(unf):
             continue
         local = "\n".join(c for c in com if c.strip())
@@ -347,7 +345,7 @@ def convert(text, path, crate, of, keep_trivial=False):
                     todo.append(t)
         moved = [re.sub(r"^((?:--.*\n)*)(?:(abbrev|unfoldable) )?(?:pub )?", lambda m: m[1] + (m[2] + " " if m[2] else "") + "pub ", t) for n, t in named if n in cited]
         helpers = [t for n, t in named if n not in cited]
-        inv_text = invariants(fns, module, uses, invs, moved, crate)
+        inv_text = invariants(module, uses, invs, moved, crate)
         if cited:
             uses.append(f"use {module}.Invariants.{{{', '.join(n for n, _ in named if n in cited)}}}")
     ans_text = None
@@ -366,7 +364,7 @@ def params_of(crate, name):
     raise Left("no function " + name)
 
 
-def invariants(fns, module, uses, invs, helpers=(), crate=""):
+def invariants(module, uses, invs, helpers, crate):
     out = []
     for com, name, word, eqs in invs:
         if word is None:
@@ -385,11 +383,8 @@ def invariants(fns, module, uses, invs, helpers=(), crate=""):
             raise Left("no loop " + word)
         (old, new), names = loops[k][0], loops[k][1]
         new = fn.of["stem"] + new
-        h = re.match(r"^\S+((?:\s+[^\s=]+)*)\s+=\s*", eqs)
-        if not h:
-            raise Left("equations of " + name)
-        binders = h[1].split()
-        body = eqs[h.end() :]
+        binders, body = equation(name, eqs)
+        plainly = body
         flags = changed[k]
         want = [("l.initial." if f else "l.") + n for n, f in zip(names, flags)] + ["l." + n for n, f in zip(names, flags) if f]
         to = {}
@@ -414,7 +409,7 @@ def invariants(fns, module, uses, invs, helpers=(), crate=""):
                 part = re.sub(r"(?<![\w'.\-₀\x00])" + re.escape(b) + r"(?![\w'\-₀])", "\x00" + b, part)
             body = body[: m.start()] + part + body[e:]
         body = re.sub(r"(?<![\w'.\-₀\x00])(" + "|".join(re.escape(b) for b in sorted(to, key=len, reverse=True)) + r")(?![\w'\-₀])", lambda m: to[m[1]], body).replace("\x00", "")
-        if re.search(r"(?<![\w'.\-₀])l(?![\w'\-₀])", eqs[h.end() :]):
+        if re.search(r"(?<![\w'.\-₀])l(?![\w'\-₀])", plainly):
             body = re.sub(r"(?<![\w'.\-])l\.(?=(?:initial\.)?(?:" + "|".join(map(re.escape, names)) + r")(?![\w'\-]))", "v.", body)
             binder = "v"
         else:
@@ -454,8 +449,7 @@ def main(argv):
             print(f"left: {path}: {e}")
             left += 1
             continue
-        os.makedirs(f"/tmp/port-old/{crate}/{path}", exist_ok=True)
-        os.rename(f"{where}/Proof.antt", f"/tmp/port-old/{crate}/{path}/Proof.antt")
+        os.remove(f"{where}/Proof.antt")
         for f, t in (("Answers.antt", ans), ("Invariants.antt", inv)):
             if t:
                 open(f"{where}/{f}", "w", encoding="utf-8").write(t)

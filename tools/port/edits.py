@@ -23,7 +23,6 @@ import subprocess
 import sys
 
 HERE = os.path.dirname(os.path.realpath(__file__))
-RT = "/opt/rattle/bin/rt"
 
 
 def commits():
@@ -246,7 +245,8 @@ def write(out, only=None):
 
 def rt_rule():
     """rt's own function `edited`."""
-    text = open(RT, encoding="utf-8").read()
+    kit = os.path.dirname(subprocess.run(["rt", "doc"], check=True, capture_output=True, text=True).stdout.strip())
+    text = open(os.path.join(kit, "bin", "rt"), encoding="utf-8").read()
     at = text.index("def edited(text, file):")
     end = text.index("\n\n\n", at)
     space = {"os": os, "re": re}
