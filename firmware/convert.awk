@@ -48,6 +48,11 @@ function stop(why) {
 }
 /^attributes #[1-9] = / {
     # Of the few functions of LLVM that are declared below.
+    # llvm.trap stands where the language's library is proved never to come.
+    if ($0 ~ /^attributes #[1-9] = \{ cold noreturn nounwind memory\(inaccessiblemem: write\) \}$/) {
+        print
+        next
+    }
     if ($0 !~ /^attributes #[1-9] = \{ ((nocallback|nocreateundeforpoison|nofree|nosync|nounwind|speculatable|willreturn) )+memory\((none|argmem: (readwrite|write))\) \}$/)
         stop("other attributes")
     print
@@ -84,7 +89,8 @@ function stop(why) {
     next
 }
 /^declare / {
-    if ($0 !~ /^declare void @llvm\.(memmove\.p0\.p0|memset\.p0)\.i64\(/ && $0 !~ /^declare float @llvm\.arithmetic\.fence\.f32\(float\) /)
+    if ($0 !~ /^declare void @llvm\.(memmove\.p0\.p0|memset\.p0)\.i64\(/ && $0 !~ /^declare void @llvm\.trap\(\) / &&
+        $0 !~ /^declare float @llvm\.arithmetic\.fence\.f32\(float\) /)
         stop("an unknown declaration")
     print
     next
@@ -101,7 +107,8 @@ function stop(why) {
         instructions++
     } else if ($1 in kind) {
         if ($0 ~ /@llvm\./ && $0 !~ /@llvm\.memmove\.p0\.p0\.i64\(ptr [^,]*, ptr [^,]*, i64 [0-9]+, i1 false\)$/ &&
-            $0 !~ /@llvm\.memset\.p0\.i64\(ptr [^,]*, i8 [0-9]+, i64 [0-9]+, i1 false\)$/)
+            $0 !~ /@llvm\.memset\.p0\.i64\(ptr [^,]*, i8 [0-9]+, i64 [0-9]+, i1 false\)$/ &&
+            $0 !~ /^  call void @llvm\.trap\(\)$/)
             stop("an unknown call of LLVM")
         instructions++
     } else if ($0 !~ /^    i(8|32) [0-9]+, label %[A-Za-z0-9_.]+$/ && $0 !~ /^  \]$/) stop("an unknown line")

@@ -11,7 +11,7 @@ use Rattle.alignment.specs.Laws.{half_not_below, nothing_below, room_not_below}
 
 -- Safe, the shift is never negative, whatever the word.
 pub never_negative : (a : AlignContent) (free : Float) → lt (or_zero (align_shift a true free)) zero_f ≡ false
-unfolding align_shift or_zero
+unfolding align_shift
 never_negative Normal free = nothing_below
 never_negative Start free = nothing_below
 never_negative Center free = half_not_below (room_of true free) (room_not_below free)

@@ -1,17 +1,16 @@
 -- The rule computed: each word, unsafe and safe, with 10 pixels of room and with 10 too few.
+use Rattle.std.specs.Prelude.{Option, None, Some}
 use mathlib.Core.Path.{◌≡◌, refl}
 use mathlib.Core.Bool.{Bool, true, false}
 use mathlib.Core.List.{List, [], ◌∷◌, map}
 use Prim.Native.Nat.{ℕ}
 use lib.Ieee.{Float, of_bits, to_bits, binary32, lt, div}
-use Rattle.util.specs.declared.OptionF32.{OptionF32}
-use Rattle.util.specs.declared.OptionF32.TheVariants.{None, Some}
 use Rattle.style.specs.declared.AlignContent.{AlignContent}
 use Rattle.style.specs.declared.AlignContent.TheVariants.{Normal, Start, Center, End, SpaceBetween, SpaceAround, SpaceEvenly, Stretch}
 use Rattle.alignment.specs.Align.{room_of, align_shift}
 
 -- the bits of a shift, 1 for none
-abbrev shown : OptionF32 → ℕ
+abbrev shown : Option Float → ℕ
 shown None = 1
 shown (Some x) = to_bits binary32 x
 

@@ -5,7 +5,6 @@ ghost use Rattle.std.specs.Prelude.{◌≡◌};
 ghost use Rattle.alignment.specs.Align.{room_of, align_shift};
 
 use style::AlignContent;
-use util::OptionF32;
 
 // Safe: negative free space is none.
 fn room_of(safe: bool, free: f32) -> f32
@@ -20,17 +19,17 @@ fn room_of(safe: bool, free: f32) -> f32
 }
 
 // The stack is one subject, so words that distribute space act as their fallbacks.
-pub fn compute_block_align_content_offset(align: AlignContent, safe: bool, free: f32) -> OptionF32
+pub fn compute_block_align_content_offset(align: AlignContent, safe: bool, free: f32) -> Option<f32>
     ensures { result ≡ align_shift align safe free }
 {
     match align {
-        AlignContent::Normal => OptionF32::None,
-        AlignContent::Start => OptionF32::None,
-        AlignContent::Center => OptionF32::Some(room_of(safe, free) / 2.0),
-        AlignContent::End => OptionF32::Some(room_of(safe, free)),
-        AlignContent::SpaceBetween => OptionF32::None,
-        AlignContent::SpaceAround => OptionF32::Some(room_of(true, free) / 2.0),
-        AlignContent::SpaceEvenly => OptionF32::Some(room_of(true, free) / 2.0),
-        AlignContent::Stretch => OptionF32::None,
+        AlignContent::Normal => None,
+        AlignContent::Start => None,
+        AlignContent::Center => Some(room_of(safe, free) / 2.0),
+        AlignContent::End => Some(room_of(safe, free)),
+        AlignContent::SpaceBetween => None,
+        AlignContent::SpaceAround => Some(room_of(true, free) / 2.0),
+        AlignContent::SpaceEvenly => Some(room_of(true, free) / 2.0),
+        AlignContent::Stretch => None,
     }
 }

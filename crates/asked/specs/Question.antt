@@ -1,7 +1,5 @@
 -- The question that four floats and a word ask.
-use Rattle.std.specs.Prelude.{Bool, false, cond, ℕ, Float}
-use Rattle.util.specs.declared.OptionF32.{OptionF32}
-use Rattle.util.specs.declared.OptionF32.TheVariants.{None, Some}
+use Rattle.std.specs.Prelude.{Bool, false, cond, ℕ, Float, Option, None, Some}
 use Rattle.length.specs.declared.AvailableSpace.{AvailableSpace}
 use Rattle.length.specs.declared.AvailableSpace.TheVariants.{Definite, MinContent, MaxContent}
 use Rattle.style.specs.Codes.{code_at, flag_at, pick4}
@@ -10,7 +8,7 @@ use Rattle.steps.specs.declared.RequestedAxis.{RequestedAxis}
 use Rattle.steps.specs.declared.RequestedAxis.TheVariants.{Horizontal, Both}
 
 -- a number that is given or none
-unfoldable pub given : Bool → Float → OptionF32
+unfoldable pub given : Bool → Float → Option Float
 given b x = cond b (Some x) None
 
 -- the kinds of 01's rows: 1 definite, 2 min-content, 3 max-content; 0 is max-content too

@@ -9,23 +9,19 @@ ghost use Rattle.profiled.specs.Profiled.{profile_paper};
 ghost use Rattle.asked.specs.Question.{given, available_of, plain_question, axis_of, as_profile};
 ghost use Rattle.asked.specs.Halves.{Halves};
 
-use coarse::CoarseAnswer;
-use index::IndexAnswer;
+use coarse::CoarseRefusal;
+use geometry::Size;
+use index::IndexRefusal;
 use length::AvailableSpace;
-use profiled::ProfileAnswer;
-use steps::{Answer, Question, RequestedAxis, number_of, place_of};
+use profiled::ProfileRefusal;
+use steps::{Question, Refusal, RequestedAxis, number_of, place_of};
 use style::{code, flag};
-use util::{OptionF32, OptionSize};
 
 // A number that is given, or none.
-fn option(b: bool, x: f32) -> OptionF32
+fn option(b: bool, x: f32) -> Option<f32>
     ensures { result ≡ given b x }
 {
-    if b {
-        OptionF32::Some(x)
-    } else {
-        OptionF32::None
-    }
+    if b { Some(x) } else { None }
 }
 
 // The available width by its kind.
@@ -44,7 +40,7 @@ fn available_of(k: u32, x: f32) -> AvailableSpace
 pub fn question(width: f32, height: f32, parent: f32, available: f32, how: u32) -> Question
     ensures { result ≡ plain_question width height parent available how }
 {
-    let known = OptionSize {
+    let known = Size {
         width: option(flag(how, 0), width),
         height: option(flag(how, 1), height),
     };
@@ -85,40 +81,44 @@ pub fn halves(number: u64, place: u32) -> u64
 }
 
 // An answer as 01's number and place.
-pub fn packed(a: Answer) -> u64
+pub fn packed(a: Result<u32, Refusal>) -> u64
     ensures { Halves (paper a) result }
 {
     halves(number_of(a) as u64, place_of(a))
 }
 
 // An answer of a call asked as profile.
-pub fn packed_profile(a: ProfileAnswer) -> u64
+#[tactic(auto, unfolding(profiled::specs::Profiled::profile_paper, profiled::specs::Profiled::no_paper, steps::specs::Noes::paper))]
+pub fn packed_profile(a: Result<u32, ProfileRefusal>) -> u64
     ensures { Halves (profile_paper a) result }
 {
     match a {
-        ProfileAnswer::Plain(no) => packed(no),
-        ProfileAnswer::Outside(k) => halves(11, k),
+        Ok(n) => packed(Ok(n)),
+        Err(ProfileRefusal::Plain(no)) => packed(Err(no)),
+        Err(ProfileRefusal::Outside(k)) => halves(11, k),
     }
 }
 
 // An index answer as the number and place of its request.
-pub fn packed_index(a: IndexAnswer) -> u64
+#[tactic(auto, unfolding(index::specs::Index::index_paper, steps::specs::Noes::paper))]
+pub fn packed_index(a: Result<(), IndexRefusal>) -> u64
     ensures { Halves (index_paper a) result }
 {
     match a {
-        IndexAnswer::Made => halves(0, 0),
-        IndexAnswer::Refused(no) => packed(no),
-        IndexAnswer::BadEntry(k) => halves(9, k),
+        Ok(()) => halves(0, 0),
+        Err(IndexRefusal::Plain(no)) => packed(Err(no)),
+        Err(IndexRefusal::BadEntry(k)) => halves(9, k),
     }
 }
 
 // A coarse answer as the number and place of its request.
-pub fn packed_coarse(a: CoarseAnswer) -> u64
+#[tactic(auto, unfolding(coarse::specs::Coarse::coarse_paper, steps::specs::Noes::paper))]
+pub fn packed_coarse(a: Result<(), CoarseRefusal>) -> u64
     ensures { Halves (coarse_paper a) result }
 {
     match a {
-        CoarseAnswer::Shown => halves(0, 0),
-        CoarseAnswer::Refused(no) => packed(no),
-        CoarseAnswer::TooFar(i) => halves(12, i.0),
+        Ok(()) => halves(0, 0),
+        Err(CoarseRefusal::Plain(no)) => packed(Err(no)),
+        Err(CoarseRefusal::TooFar(i)) => halves(12, i.0),
     }
 }

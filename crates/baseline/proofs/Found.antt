@@ -1,8 +1,7 @@
 -- A row's baseline, where it has one, is that of a leaf at or below it: of every node of a fresh layout.
-use Rattle.std.specs.Prelude.{◌≡◌, refl, Bool, true, false, Float}
+use Rattle.std.specs.Prelude.{◌≡◌, refl, Bool, true, false, Float, None, Some}
 use Rattle.std.proofs.Common.{sym, ap, ◌∙◌, inl, inr}
 use Rattle.geometry.specs.Geometry.{zero_f}
-use Rattle.util.specs.declared.OptionF32.TheVariants.{None, Some}
 use Rattle.style.specs.Flow.{is_leaf}
 use Rattle.tree.specs.Tree.{Tree, Forest, node, none, more, map_t, map_f}
 use Rattle.steps.specs.Row.{laid_row}

@@ -1,9 +1,7 @@
 -- Baselines move no other row word: a page's rows, but for number 15 and bit 9, are those of the page without bit 16.
-use Rattle.std.specs.Prelude.{◌≡◌, refl, Bool, true, false, Float}
+use Rattle.std.specs.Prelude.{◌≡◌, refl, Bool, true, false, Float, Option, None, Some}
 use Rattle.std.proofs.Common.{sym, ap, ◌∙◌}
 use Rattle.geometry.specs.Geometry.{zero_f}
-use Rattle.util.specs.declared.OptionF32.{OptionF32}
-use Rattle.util.specs.declared.OptionF32.TheVariants.{None, Some}
 use Rattle.style.specs.Flow.{is_leaf}
 use Rattle.tree.specs.Tree.{Tree, Forest, node, none, more, map_t, map_f, on_root}
 use Rattle.tree.proofs.Laws.{map_t_node, map_f_none, map_f_more}
@@ -35,7 +33,7 @@ unfolding lower_f map_f
 lower_f_lem d none = refl
 lower_f_lem d (more t ts) = rw (lower_t d t, lower_f_lem d ts)
 
-align_less : (d : OptionF32) (ts : Forest Row) → map_f unsaid (align_f d ts) ≡ align_f d (map_f unsaid ts)
+align_less : (d : Option Float) (ts : Forest Row) → map_f unsaid (align_f d ts) ≡ align_f d (map_f unsaid ts)
 unfolding align_f
 align_less None ts = refl
 align_less (Some d) ts = lower_f_lem d ts

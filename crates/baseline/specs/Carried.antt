@@ -1,7 +1,6 @@
 -- Where a row's baseline comes from: it is that of a leaf at or below the node, moved by the places of the boxes between.
-use Rattle.std.specs.Prelude.{◌≡◌, Bool, true, false, ◌⊎◌, Float}
+use Rattle.std.specs.Prelude.{◌≡◌, Bool, true, false, ◌⊎◌, Float, Some}
 use Rattle.geometry.specs.Floats.{◌⊕◌}
-use Rattle.util.specs.declared.OptionF32.TheVariants.{Some}
 use Rattle.style.specs.Codes.{flag_at}
 use Rattle.style.specs.Flow.{is_leaf}
 use Rattle.tree.specs.Tree.{Tree, Forest, node, none, more, root_t}

@@ -1,12 +1,11 @@
 -- A row's baseline, where it has one, is that of a leaf at or below it: of every node of a fresh layout.
-use Rattle.std.specs.Prelude.{◌≡◌, refl, Bool, true, false, cond, ℕ, ◌<◌, Float}
+use Rattle.std.specs.Option.{option_or}
+use Rattle.std.specs.Prelude.{◌≡◌, refl, Bool, true, false, cond, ℕ, ◌<◌, Float, Option, None, Some, is_some}
 use Rattle.std.proofs.Common.{sym, ap, ◌∙◌, inl, inr}
 use Rattle.geometry.specs.Floats.{◌⊕◌}
 use Rattle.geometry.specs.Geometry.{zero_f}
 use Rattle.geometry.specs.declared.Point.{Point}
-use Rattle.util.specs.Maybe.{or_zero, is_some, or_else}
-use Rattle.util.specs.declared.OptionF32.{OptionF32}
-use Rattle.util.specs.declared.OptionF32.TheVariants.{None, Some}
+use Rattle.util.specs.Maybe.{or_zero}
 use Rattle.margin.specs.declared.CollapsibleMarginSet.{CollapsibleMarginSet}
 use Rattle.style.specs.Flow.{is_leaf, flow_of}
 use Rattle.style.specs.declared.Flow.{Flow}
@@ -37,7 +36,7 @@ use Rattle.baseline.specs.Carried.{lined, line_in, CarriesT, SaysT, SaysF}
 use Rattle.baseline.specs.Origins.{site_n, or_some, is_some_lem, not_some, some_some, no_some, hidden_says, aside_says, bare_says, bare_root, carries_any, says_on, put_alike, OriginHere, root_on, zeros_f_lem, OriginF}
 
 -- ---- one node
-pub uncontained : (s : Style) (o d : OptionF32) (b : Float) → block_baseline s o d ≡ Some b → shifted o d ≡ Some b
+pub uncontained : (s : Style) (o d : Option Float) (b : Float) → block_baseline s o d ≡ Some b → shifted o d ≡ Some b
 unfolding block_baseline
 uncontained s o d b e = go s.contained e
   where
@@ -69,11 +68,11 @@ unfolding zeros_f
 zeros_below ks = zeros_f_lem ks
 
 -- ---- the stack
-through_line : (c : Cursor) (t b : CollapsibleMarginSet) (x : OptionF32) → (past_through c t b x).baseline ≡ x
+through_line : (c : Cursor) (t b : CollapsibleMarginSet) (x : Option Float) → (past_through c t b x).baseline ≡ x
 unfolding past_through
 through_line c t b x = refl
 
-box_line : (f : Frame) (c : Cursor) (t b : CollapsibleMarginSet) (h : Float) (x : OptionF32) → (past_box f c t b h x).baseline ≡ x
+box_line : (f : Frame) (c : Cursor) (t b : CollapsibleMarginSet) (h : Float) (x : Option Float) → (past_box f c t b h x).baseline ≡ x
 unfolding past_box
 box_line f c t b h x = refl
 
@@ -81,7 +80,7 @@ past_line : (f : Frame) (c : Cursor) (i : BlockItem) (o : LayoutOutput) → (ste
 unfolding stepped
 past_line f c i o = go o.through f c (top_margins i o) (bottom_margins i o) o.size.height (baseline_past c.baseline (place_y f c i o) o.baseline)
   where
-    go : (v : Bool) (f : Frame) (c : Cursor) (t b : CollapsibleMarginSet) (h : Float) (x : OptionF32) → (cond v (past_through c t b x) (past_box f c t b h x)).baseline ≡ x
+    go : (v : Bool) (f : Frame) (c : Cursor) (t b : CollapsibleMarginSet) (h : Float) (x : Option Float) → (cond v (past_through c t b x) (past_box f c t b h x)).baseline ≡ x
     go true f c t b h x = through_line c t b x
     go false f c t b h x = box_line f c t b h x
 
@@ -93,30 +92,30 @@ hidden_line : (c : Cursor) → (past_hidden c).baseline ≡ c.baseline
 unfolding past_hidden
 hidden_line c = refl
 
-past_some : (o : OptionF32) (y x : Float) (b : OptionF32) → o ≡ Some x → baseline_past o y b ≡ Some x
-unfolding baseline_past or_else
+past_some : (o : Option Float) (y x : Float) (b : Option Float) → o ≡ Some x → baseline_past o y b ≡ Some x
+unfolding baseline_past
 past_some o y x b e = rw e
 
-past_none : (o : OptionF32) (y : Float) → o ≡ None → baseline_past o y None ≡ None
-unfolding baseline_past or_else at_place
+past_none : (o : Option Float) (y : Float) → o ≡ None → baseline_past o y None ≡ None
+unfolding baseline_past at_place
 past_none o y e = rw e
 
-past_first : (o : OptionF32) (y x : Float) → o ≡ None → baseline_past o y (Some x) ≡ Some (y ⊕ x)
-unfolding baseline_past or_else at_place
+past_first : (o : Option Float) (y x : Float) → o ≡ None → baseline_past o y (Some x) ≡ Some (y ⊕ x)
+unfolding baseline_past at_place
 past_first o y x e = rw e
 
 -- a row put at its place: what it says is its answer's
-put_lined : (p : Point) (n : ℕ) (q : LayoutInput) (o : LayoutOutput) (w : ProbeWords) → w.code < 16 → lined (put_at p n (laid_row q o w)) ≡ is_some o.baseline
+put_lined : (p : Point Float) (n : ℕ) (q : LayoutInput) (o : LayoutOutput) (w : ProbeWords) → w.code < 16 → lined (put_at p n (laid_row q o w)) ≡ is_some o.baseline
 put_lined p n q o w v = (put_alike p n).has (laid_row q o w) ∙ lined_row q o w v
 
-put_line : (p : Point) (n : ℕ) (q : LayoutInput) (o : LayoutOutput) (w : ProbeWords) → line_in (put_at p n (laid_row q o w)) ≡ or_zero o.baseline
+put_line : (p : Point Float) (n : ℕ) (q : LayoutInput) (o : LayoutOutput) (w : ProbeWords) → line_in (put_at p n (laid_row q o w)) ≡ or_zero o.baseline
 put_line p n q o w = (put_alike p n).line (laid_row q o w) ∙ laid_line q o w
 
-put_laid : (p : Point) (n : ℕ) (r : Row) → is_laid (put_at p n r) ≡ is_laid r
+put_laid : (p : Point Float) (n : ℕ) (r : Row) → is_laid (put_at p n r) ≡ is_laid r
 unfolding put_at is_laid
 put_laid p n r = refl
 
-put_place : (p : Point) (n : ℕ) (r : Row) → (put_at p n r).place.y ≡ p.y
+put_place : (p : Point Float) (n : ℕ) (r : Row) → (put_at p n r).place.y ≡ p.y
 unfolding put_at
 put_place p n r = refl
 
@@ -155,7 +154,7 @@ kid_here t k f c q i n b e =
       at = rw (same, line) (ap (λ (y : Float). y ⊕ b) (sym (ap (λ (v : Row). v.place.y) top ∙ put_place p n (laid_row q o (root_t t).probe) ∙ place_is f c i o)));
     }
 
-kid_none : (t : Tree Node) → Kid t → (p : Point) (q : LayoutInput) (n : ℕ) → (lay_t t q zero_f).out.baseline ≡ None → lined (root_t (on_root (put_at p n) (lay_t t q zero_f).rows)) ≡ false
+kid_none : (t : Tree Node) → Kid t → (p : Point Float) (q : LayoutInput) (n : ℕ) → (lay_t t q zero_f).out.baseline ≡ None → lined (root_t (on_root (put_at p n) (lay_t t q zero_f).rows)) ≡ false
 kid_none t k p q n e =
     ap lined (root_on (put_at p n) (lay_t t q zero_f).rows ∙ ap (put_at p n) (root_of_lem t q)) ∙ put_lined p n q (lay_t t q zero_f).out (root_t t).probe k.small ∙ not_some (lay_t t q zero_f).out.baseline e
 
@@ -226,7 +225,7 @@ place_first f c s t ts q k r z x e = go (lay_t t q zero_f).out.baseline refl
     d : Cursor
     d = stepped f c i o
 
-    go : (b : OptionF32) → o.baseline ≡ b → OriginF (more (map_t site_n t) (map_f site_n ts)) (more (on_root (put_at (place_of f c i o) c.shown.0) (lay_t t q zero_f).rows) (lay_f ts f d).rows) x
+    go : (b : Option Float) → o.baseline ≡ b → OriginF (more (map_t site_n t) (map_f site_n ts)) (more (on_root (put_at (place_of f c i o) c.shown.0) (lay_t t q zero_f).rows) (lay_f ts f d).rows) x
     go None h = inr (kid_none t k (place_of f c i o) q c.shown.0 h, r d (past_line f c i o ∙ ap (baseline_past c.baseline (place_y f c i o)) h ∙ past_none c.baseline (place_y f c i o) z) x e)
     go (Some b) h =
         let at : d.baseline ≡ Some (place_y f c i o ⊕ b) = past_line f c i o ∙ ap (baseline_past c.baseline (place_y f c i o)) h ∙ past_first c.baseline (place_y f c i o) b z in

@@ -1,8 +1,6 @@
 -- Both theorems of lent tables: what holds where no style word has bit 16, and where each baseline comes from.
-use Rattle.std.specs.Prelude.{◌≡◌, refl, false, List, ℕ, ◌<◌, Float}
+use Rattle.std.specs.Prelude.{◌≡◌, refl, false, List, ℕ, ◌<◌, Float, Option, None}
 use Rattle.std.proofs.Common.{sym, ap}
-use Rattle.util.specs.declared.OptionF32.{OptionF32}
-use Rattle.util.specs.declared.OptionF32.TheVariants.{None}
 use Rattle.style.specs.Codes.{flag_at, baseline_of}
 use Rattle.style.specs.Style.{word_at, measure_at, style_at}
 use Rattle.style.specs.declared.Measure.{Measure}
@@ -19,7 +17,7 @@ abbrev pub NoLine : Site → Type 0
 NoLine s = s.style.measure.baseline ≡ None
 
 table_same : (m : Measure) → m.baseline ≡ None → unlined_table m ≡ m
-table_same m e = ap (λ (b : OptionF32). record { least = m.least; most = m.most; height = m.height; baseline = b }) (sym e)
+table_same m e = ap (λ (b : Option Float). record { least = m.least; most = m.most; height = m.height; baseline = b }) (sym e)
 
 abbrev style_with : Style → Measure → Style
 style_with s m =

@@ -1,11 +1,9 @@
 -- Rows that differ in their place alone say the same of baselines; the first child of a stack that has one, before and after M.
-use Rattle.std.specs.Prelude.{◌≡◌, refl, true, false, ◌⊎◌, ℕ, Float}
+use Rattle.std.specs.Prelude.{◌≡◌, refl, true, false, ◌⊎◌, ℕ, Float, Option, None, Some, is_some}
 use Rattle.std.proofs.Common.{sym, ap, ◌∙◌, inl, inr}
 use Rattle.geometry.specs.Floats.{◌⊕◌}
 use Rattle.geometry.specs.declared.Point.{Point}
-use Rattle.util.specs.Maybe.{or_zero, is_some}
-use Rattle.util.specs.declared.OptionF32.{OptionF32}
-use Rattle.util.specs.declared.OptionF32.TheVariants.{None, Some}
+use Rattle.util.specs.Maybe.{or_zero}
 use Rattle.tree.specs.Tree.{Tree, Forest, node, none, more, map_t, map_f, root_t, on_root}
 use Rattle.steps.specs.Row.{Row, is_laid, bare, no_row, hidden_row, aside_row, put_at, lowered}
 use Rattle.steps.specs.Page.{Site, Node}
@@ -18,29 +16,23 @@ abbrev pub site_n : Node → Site
 site_n n = n.site
 
 -- ---- numbers that may be absent
-pub some_or : (o : OptionF32) → is_some o ≡ true → o ≡ Some (or_zero o)
-unfolding is_some or_zero
+pub some_or : (o : Option Float) → is_some o ≡ true → o ≡ Some (or_zero o)
 some_or None e = cc
 some_or (Some x) e = refl
 
-pub or_some : (o : OptionF32) (x : Float) → o ≡ Some x → or_zero o ≡ x
-unfolding or_zero
+pub or_some : (o : Option Float) (x : Float) → o ≡ Some x → or_zero o ≡ x
 or_some o x e = ap or_zero e
 
-pub is_some_lem : (o : OptionF32) (x : Float) → o ≡ Some x → is_some o ≡ true
-unfolding is_some
+pub is_some_lem : (o : Option Float) (x : Float) → o ≡ Some x → is_some o ≡ true
 is_some_lem o x e = ap is_some e
 
-pub not_some : (o : OptionF32) → o ≡ None → is_some o ≡ false
-unfolding is_some
+pub not_some : (o : Option Float) → o ≡ None → is_some o ≡ false
 not_some o e = ap is_some e
 
 pub some_some : (x y : Float) → Some x ≡ Some y → x ≡ y
-unfolding or_zero
 some_some x y e = ap or_zero e
 
 pub no_some : {A : Type 0} (x : Float) → None ≡ Some x → A
-unfolding is_some
 no_some x e = false_true (is_some (Some x)) (sym (ap is_some e)) refl
 
 -- ---- rows without a baseline
@@ -88,7 +80,7 @@ pub says_on : (g : Row → Row) → Alike g → (t : Tree Site) (u : Tree Row) �
 unfolding on_root
 says_on g a (node s ks) (node r us) h = ((λ e. rw (a.line r) (h.0 (sym (a.has r) ∙ e))), h.1)
 
-pub put_alike : (p : Point) (n : ℕ) → Alike (put_at p n)
+pub put_alike : (p : Point Float) (n : ℕ) → Alike (put_at p n)
 unfolding put_at
 put_alike p n = record { has = λ r. refl; line = λ r. refl }
 
@@ -147,7 +139,7 @@ lower_says d none us h = tt
 lower_says d (more t ts) none h = h
 lower_says d (more t ts) (more u us) h = (says_on (lowered d) (lower_alike d) t u h.0, lower_says d ts us h.1)
 
-pub align_says : (d : OptionF32) (ks : Forest Site) (us : Forest Row) → SaysF ks us → SaysF ks (align_f d us)
+pub align_says : (d : Option Float) (ks : Forest Site) (us : Forest Row) → SaysF ks us → SaysF ks (align_f d us)
 unfolding align_f
 align_says None ks us h = h
 align_says (Some d) ks us h = lower_says d ks us h

@@ -1,11 +1,9 @@
 -- Baselines move no other row word: a page's rows, but for number 15 and bit 9, are those of the page without bit 16.
-use Rattle.std.specs.Prelude.{◌≡◌, refl, Bool, true, false, cond, ℕ, ◌+◌, ◌*◌, ◌/◌, ◌%◌, ◌<◌, eqb, Float}
+use Rattle.std.specs.Prelude.{◌≡◌, refl, Bool, true, false, cond, ℕ, ◌+◌, ◌*◌, ◌/◌, ◌%◌, ◌<◌, eqb, Float, Option, None, is_some}
 use Rattle.std.proofs.Common.{sym, ap, ◌∙◌, arith}
 use Rattle.geometry.specs.Geometry.{zero_f}
 use Rattle.geometry.specs.declared.Point.{Point}
-use Rattle.util.specs.Maybe.{or_zero, is_some}
-use Rattle.util.specs.declared.OptionF32.{OptionF32}
-use Rattle.util.specs.declared.OptionF32.TheVariants.{None}
+use Rattle.util.specs.Maybe.{or_zero}
 use Rattle.margin.specs.declared.CollapsibleMarginSet.{CollapsibleMarginSet}
 use Rattle.style.specs.Codes.{flag_at}
 use Rattle.style.specs.Flow.{flow_of}
@@ -62,7 +60,7 @@ low_bits t g c h =
     omega arith
 
 pub row_less : (q : LayoutInput) (o : LayoutOutput) (p : ProbeWords) → p.code < 16 → unsaid (laid_row q o p) ≡ laid_row q (quiet o) p
-unfolding laid_row or_zero is_some
+unfolding laid_row
 row_less q o p h =
     rw (no_bit (1 + 2 * bit o.through + 8 * bit (is_some q.known.height) + 16 * p.code) (bit (is_some q.basis)) (bit (is_some o.baseline)) (low_bits o.through (is_some q.known.height) p.code h) (bit_small (is_some q.basis)) (bit_small (is_some o.baseline)))
 
@@ -86,7 +84,7 @@ zeros_less : (r : Row) → unsaid r ≡ r → {A : Type 0} (t : Tree A) → map_
 unfolding zeros_t zeros_f map_t on_root
 zeros_less r e (node a ks) = ap (λ (x : Row). node x (map_f unsaid (zeros_f ks))) e ∙ ap (node r) (zeros_less_f ks)
 
-put_less : (p : Point) (n : ℕ) (t : Tree Row) → map_t unsaid (on_root (put_at p n) t) ≡ on_root (put_at p n) (map_t unsaid t)
+put_less : (p : Point Float) (n : ℕ) (t : Tree Row) → map_t unsaid (on_root (put_at p n) t) ≡ on_root (put_at p n) (map_t unsaid t)
 unfolding map_t on_root put_at
 put_less p n (node r ks) = refl
 
@@ -115,7 +113,7 @@ place_less : (f : Frame) (c : Cursor) (i : BlockItem) (o : LayoutOutput) → pla
 unfolding place_of place_y gap_of at_top top_margins
 place_less f c i o = refl
 
-step_by : (v : Bool) (f : Frame) (c : Cursor) (t b : CollapsibleMarginSet) (h : Float) (x : OptionF32)
+step_by : (v : Bool) (f : Frame) (c : Cursor) (t b : CollapsibleMarginSet) (h : Float) (x : Option Float)
     → still (cond v (past_through c t b x) (past_box f c t b h x)) ≡ cond v (past_through (still c) t b None) (past_box f (still c) t b h None)
 unfolding past_through past_box gap_of at_top
 step_by true f c t b h x = refl

@@ -1,10 +1,9 @@
 -- A page whose leaves have no baseline, and what of a row, an answer and a cursor does not speak of one.
-use Rattle.std.specs.Prelude.{◌≡◌, refl, Bool, true, false, cond, ℕ, ◌+◌, ◌*◌, ◌/◌, ◌%◌, Float}
+use Rattle.std.specs.Option.{option_or}
+use Rattle.geometry.specs.declared.Size.{Size}
+use Rattle.std.specs.Prelude.{◌≡◌, refl, Bool, true, false, cond, ℕ, ◌+◌, ◌*◌, ◌/◌, ◌%◌, Float, Option, None, Some}
 use Rattle.geometry.specs.Geometry.{zero_f}
-use Rattle.util.specs.Maybe.{add_opt, or_else}
-use Rattle.util.specs.declared.OptionF32.{OptionF32}
-use Rattle.util.specs.declared.OptionF32.TheVariants.{None, Some}
-use Rattle.util.specs.declared.OptionSize.{OptionSize}
+use Rattle.util.specs.Maybe.{add_opt}
 use Rattle.length.specs.declared.AvailableSpace.{AvailableSpace}
 use Rattle.length.specs.declared.AvailableSpace.TheVariants.{Definite, MinContent, MaxContent}
 use Rattle.style.specs.Flow.{flow_of, is_leaf}
@@ -82,7 +81,7 @@ same_table m (Definite x) = refl
 same_table m MinContent = refl
 same_table m MaxContent = refl
 
-same_a : (s : Style) (b h : OptionF32) → sizing_of (unlined s) b h ≡ sizing_of s b h
+same_a : (s : Style) (b h : Option Float) → sizing_of (unlined s) b h ≡ sizing_of s b h
 unfolding sizing_of sized_by box_size
 same_a s b h = refl
 
@@ -104,15 +103,15 @@ same_outer : (s : Style) (a : AvailableSpace) (w : Float) → outer_width (unlin
 unfolding outer_width side_margins step_a sizing_of sized_by box_size
 same_outer s a w = refl
 
-same_space : (s : Style) (p : OptionF32) (a : AvailableSpace) → space_in (unlined s) p a ≡ space_in s p a
+same_space : (s : Style) (p : Option Float) (a : AvailableSpace) → space_in (unlined s) p a ≡ space_in s p a
 unfolding space_in insets gutter step_a sizing_of sized_by box_size
 same_space s p a = refl
 
-same_found : (s : Style) (p : OptionF32) (m : Float) → found_width (unlined s) p m ≡ found_width s p m
+same_found : (s : Style) (p : Option Float) (m : Float) → found_width (unlined s) p m ≡ found_width s p m
 unfolding found_width insets gutter step_a sizing_of sized_by box_size
 same_found s p m = refl
 
-same_known : (s : Style) (p : OptionF32) (k : OptionSize) → known_of (unlined s) (step_a (unlined s) p) k ≡ known_of s (step_a s p) k
+same_known : (s : Style) (p : Option Float) (k : Size (Option Float)) → known_of (unlined s) (step_a (unlined s) p) k ≡ known_of s (step_a s p) k
 unfolding known_of step_d step_a sizing_of sized_by box_size
 same_known s p k = refl
 
@@ -145,18 +144,18 @@ same_leaf m q = rw (same_table m q.available)
 
 -- where none was found none is passed out
 pub none_past : (y : Float) → baseline_past None y None ≡ None
-unfolding baseline_past at_place or_else
+unfolding baseline_past at_place
 none_past y = refl
 
-shifted_none : (d : OptionF32) → shifted None d ≡ None
+shifted_none : (d : Option Float) → shifted None d ≡ None
 unfolding shifted add_opt
 shifted_none None = refl
 shifted_none (Some d) = refl
 
-pub none_out : (s : Style) (d : OptionF32) → block_baseline s None d ≡ None
+pub none_out : (s : Style) (d : Option Float) → block_baseline s None d ≡ None
 unfolding block_baseline
 none_out s d = rw (shifted_none d) (go s.contained)
   where
-    go : (b : Bool) → ◌≡◌ {A = OptionF32} (cond b None None) None
+    go : (b : Bool) → ◌≡◌ {A = Option Float} (cond b None None) None
     go true = refl
     go false = refl

@@ -12,13 +12,11 @@ fn move_records(triples: &mut [f32], n: usize, x: f32, y: f32)
     requires { 3 * n ≤ length triples.old }
     ensures { AllMoved triples.old n x y triples.new }
 {
-    let mut i = 0usize;
-    while i < n {
+    for i in 0..n {
         let k = 3 * i;
         triples[k] = triples[k] + x;
         triples[k + 1] = triples[k + 1] + x;
         triples[k + 2] = triples[k + 2] + y;
-        i += 1;
     }
 }
 
@@ -56,6 +54,7 @@ pub fn gather(
 {
     let mut used = 0usize;
     let mut a = 0usize;
+    // No `for`: a step is as long as its run.
     while style::WORDS * a < words.len() {
         let e = a + style::word(words, a, style::SIZE) as usize;
         let a4 = style::WORDS * a;

@@ -1,12 +1,11 @@
 -- Two pages that differ only below a node that a relayout keeps, on rows that a layout left: all that `relayouts_agree` supposes, and that the pages do differ.
-use Rattle.std.specs.Prelude.{◌≡◌, refl, Bool, true, List, [], ℕ, ◌+◌, ◌*◌, get_or, Float}
+use Rattle.std.specs.Prelude.{◌≡◌, refl, Bool, true, List, [], ℕ, ◌+◌, ◌*◌, get_or, Float, Ok}
 use Rattle.std.specs.Float.Ieee.{to_bits}
 use Rattle.std.specs.Float.{binary32}
 use Rattle.geometry.specs.Geometry.{zero_f}
 use Rattle.style.specs.Style.{number_at}
 use Rattle.steps.specs.Noes.{relayout_tested}
 use Rattle.steps.specs.Results.{layout_result, relayout_result}
-use Rattle.steps.specs.declared.Tested.TheVariants.{Pass}
 use Rattle.steps.proofs.Computed.{calls}
 use Rattle.laws.specs.Below.{under, below_t, below_kept}
 use Rattle.laws.specs.Tables.{below_at}
@@ -23,11 +22,11 @@ unfolding calls first low tall free probe_words probe_was under below_t below_ke
 below_leaf = refl
 
 -- both relayouts pass the tests
-pub tall_passes : relayout_tested probe_words tall first.rows first.marks [] [] box free ≡ Pass
+pub tall_passes : relayout_tested probe_words tall first.rows first.marks [] [] box free ≡ Ok tt
 unfolding calls first low tall free probe_words probe_was
 tall_passes = refl
 
-pub high_passes : relayout_tested probe_words leaf_high first.rows first.marks [] [] box free ≡ Pass
+pub high_passes : relayout_tested probe_words leaf_high first.rows first.marks [] [] box free ≡ Ok tt
 unfolding calls first low tall leaf_high free probe_words probe_was
 high_passes = refl
 

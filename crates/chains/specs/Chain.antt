@@ -1,12 +1,10 @@
 -- An accepted layout and two accepted relayouts. At each relayout A is kept, it has a child, and its probe stands.
-use Rattle.std.specs.Prelude.{◌≡◌, refl, Bool, true, false, List, [], ◌∷◌, ℕ}
+use Rattle.std.specs.Prelude.{◌≡◌, refl, Bool, true, false, List, [], ◌∷◌, ℕ, Ok}
 use Rattle.tree.specs.Tree.{Tree, node, none, more, map_t}
 use Rattle.steps.specs.Page.{Cell, Node, named, cells_of}
 use Rattle.steps.specs.Probe.{width_pass}
 use Rattle.steps.specs.Noes.{relayout_tested}
 use Rattle.steps.specs.Results.{Reply, layout_result, relayout_result}
-use Rattle.steps.specs.declared.Answer.TheVariants.{Done}
-use Rattle.steps.specs.declared.Tested.TheVariants.{Pass}
 use Rattle.steps.proofs.Computed.{calls}
 use Rattle.laws.specs.Below.{under, below_t, below_kept}
 use Rattle.laws.specs.Examples.{free, probe_words, probe_was}
@@ -26,15 +24,15 @@ second = relayout_result probe_words tall first.rows first.marks [] [] box free
 unfoldable pub third : Reply
 third = relayout_result probe_words taller second.rows second.marks [] [] box free
 
-pub first_accepted : first.answer ≡ Done 0
+pub first_accepted : first.answer ≡ Ok 0
 unfolding calls first low free probe_words probe_was
 first_accepted = refl
 
-pub second_accepted : second.answer ≡ Done 0
+pub second_accepted : second.answer ≡ Ok 0
 unfolding calls first second low tall free probe_words probe_was
 second_accepted = refl
 
-pub third_accepted : third.answer ≡ Done 0
+pub third_accepted : third.answer ≡ Ok 0
 unfolding calls first second third low tall taller free probe_words probe_was
 third_accepted = refl
 
@@ -44,7 +42,7 @@ unfolding named
 box_named = refl
 
 -- so the theorem says of the last call that it gives what a layout gives
-pub third_passes : relayout_tested probe_words taller second.rows second.marks [] [] box free ≡ Pass
+pub third_passes : relayout_tested probe_words taller second.rows second.marks [] [] box free ≡ Ok tt
 unfolding calls first second low tall taller free probe_words probe_was
 third_passes = refl
 

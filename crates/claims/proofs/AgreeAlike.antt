@@ -1,5 +1,6 @@
 -- Demand 3, second half, at exit of every call that does it: two pages that differ only below kept nodes end alike.
-use Rattle.std.specs.Prelude.{◌≡◌, Bool, ℕ, ◌<◌, length, ltb, Float}
+use Rattle.steps.specs.declared.Refusal.{Refusal}
+use Rattle.std.specs.Prelude.{◌≡◌, Bool, ℕ, ◌<◌, length, ltb, Float, Result, Ok, Err}
 use Rattle.std.proofs.Math.Path.{sym, ap}
 use Rattle.std.proofs.Common.{◌∙◌}
 use Rattle.std.proofs.Math.Bool.{true, false}
@@ -10,8 +11,6 @@ use Rattle.steps.specs.Kept.{Laid}
 use Rattle.steps.specs.Candidates.{candidates, needed}
 use Rattle.steps.specs.Noes.{relayout_tested}
 use Rattle.steps.specs.declared.LayoutInput.{LayoutInput}
-use Rattle.steps.specs.declared.Answer.{Answer}
-use Rattle.steps.specs.declared.Tested.TheVariants.{Pass}
 use Rattle.laws.specs.Tables.{SameShape, Sound, AgreeAt, below_at}
 use Rattle.laws.specs.Answers.{relayout_layout}
 use Rattle.laws.proofs.Blind.{tables-same}
@@ -23,7 +22,7 @@ use Rattle.claims.specs.Claims.{relayouts_agree}
 use Rattle.claims.specs.Agreeing.{same-needed, room_by, both_parts}
 
 module _ (ws : List ℕ) (xs : List Float) (ws' : List ℕ) (xs' : List Float) (rs : List Float) (ms cw : List ℕ) (cx : List Float) (es : List ℕ) (q : LayoutInput) (shape : SameShape ws ws')
-    (agree : (i : ℕ) → i < nodes_in ws → AgreeAt ws xs ws' xs' (below_at ws xs rs ms es q i) i) (pass : relayout_tested ws xs rs ms cw cx es q ≡ Pass) (pass' : relayout_tested ws' xs' rs ms cw cx es q ≡ Pass) where
+    (agree : (i : ℕ) → i < nodes_in ws → AgreeAt ws xs ws' xs' (below_at ws xs rs ms es q i) i) (pass : relayout_tested ws xs rs ms cw cx es q ≡ Ok tt) (pass' : relayout_tested ws' xs' rs ms cw cx es q ≡ Ok tt) where
   sound_here : Sound ws xs
   sound_here = checks.sound ws xs rs ms cw cx q (relayout_layout ws xs rs ms cw cx es q pass)
 
@@ -38,7 +37,7 @@ module _ (ws : List ℕ) (xs : List Float) (ws' : List ℕ) (xs' : List Float) (
       let y = relayout-few ws' xs' rs ms cw cx lent es q (rw same-needs at l) in
       let a = room_by ws xs rs ms cw cx lent q _ x (relayout_layout ws xs rs ms cw cx es q pass) in
       let b = room_by ws' xs' rs ms cw cx lent q _ y (relayout_layout ws' xs' rs ms cw cx es q pass') in
-      x.is_as_lent ∙ ap (λ (c : Answer). record { plain = record { answer = c; rows = rs; marks = ms; words = cw; numbers = cx }; records = lent }) (a ∙ sym b) ∙ sym y.is_as_lent
+      x.is_as_lent ∙ ap (λ (c : Refusal). record { plain = record { answer = Err c; rows = rs; marks = ms; words = cw; numbers = cx }; records = lent }) (a ∙ sym b) ∙ sym y.is_as_lent
   records-alike lent false e =
       let h = ltb-false (length lent) (needed (page_of ws xs [])) e in
       let x = relayout-enough ws xs rs ms cw cx lent es q h ∙ relayouts_agree ws xs ws' xs' rs ms cw cx es q shape agree pass pass' ∙ sym (relayout-enough ws' xs' rs ms cw cx lent es q (rw same-needs at h)) in

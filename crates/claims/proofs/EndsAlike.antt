@@ -1,5 +1,6 @@
 -- Demand 3 at exit of every call that does it: plain, over records, from C; and chains that mix them.
-use Rattle.std.specs.Prelude.{◌≡◌, Bool, List, [], ℕ, length, ltb, Float}
+use Rattle.steps.specs.declared.Refusal.{Refusal}
+use Rattle.std.specs.Prelude.{◌≡◌, Bool, List, [], ℕ, length, ltb, Float, Result, Ok, Err, ⊤}
 use Rattle.std.proofs.Math.Path.{sym, ap}
 use Rattle.std.proofs.Common.{◌∙◌}
 use Rattle.std.proofs.Math.Bool.{true, false}
@@ -10,9 +11,7 @@ use Rattle.steps.specs.Layout.{relaid, fresh}
 use Rattle.steps.specs.Candidates.{candidates, needed}
 use Rattle.steps.specs.Noes.{relayout_tested}
 use Rattle.steps.specs.Results.{layout_result, relayout_result}
-use Rattle.steps.specs.declared.Answer.{Answer}
 use Rattle.steps.specs.declared.LayoutInput.{LayoutInput}
-use Rattle.steps.specs.declared.Tested.TheVariants.{Pass, Refuse}
 use Rattle.laws.specs.Tables.{SameShape, Named}
 use Rattle.laws.specs.Answers.{relayout_layout}
 use Rattle.laws.proofs.Public.{tables-fresh, calls-fresh}
@@ -26,7 +25,7 @@ use Rattle.claims.specs.EveryCall.{Left, left_calls}
 
 -- ---- a relayout of each kind ends as a layout of that kind
 module _ (ws : List ℕ) (xs : List Float) (q : LayoutInput) (rs : List Float) (ms : List ℕ) (ws' : List ℕ) (xs' : List Float) (cw : List ℕ) (cx : List Float) (es : List ℕ) (p : LayoutInput) (left : Left ws xs q rs ms) (shape : SameShape ws ws')
-    (named : Named es ws xs ws' xs') (pass : relayout_tested ws' xs' rs ms cw cx es p ≡ Pass) where
+    (named : Named es ws xs ws' xs') (pass : relayout_tested ws' xs' rs ms cw cx es p ≡ Ok tt) where
   pub same-result : relayout_result ws' xs' rs ms cw cx es p ≡ layout_result ws' xs' rs ms cw cx p
   same-result = relayout_is_layout ws xs q rs ms ws' xs' cw cx es p (left_calls ws xs q rs ms left) shape named pass
 
@@ -43,9 +42,9 @@ module _ (ws : List ℕ) (xs : List Float) (q : LayoutInput) (rs : List Float) (
       let x = relayout-few ws' xs' rs ms cw cx lent es p l in
       let y = layout-few ws' xs' rs ms cw cx lent p l in
       let z : x.answer ≡ y.answer = refusal (sym x.first_due ∙ y.first_due) in
-      x.is_as_lent ∙ ap (λ (a : Answer). record { plain = record { answer = a; rows = rs; marks = ms; words = cw; numbers = cx }; records = lent }) z ∙ sym y.is_as_lent
+      x.is_as_lent ∙ ap (λ (a : Refusal). record { plain = record { answer = Err a; rows = rs; marks = ms; words = cw; numbers = cx }; records = lent }) z ∙ sym y.is_as_lent
     where
-      refusal : {a b : Answer} → Refuse a ≡ Refuse b → a ≡ b
+      refusal : {a b : Refusal} → ◌≡◌ {A = Result ⊤ Refusal} (Err a) (Err b) → a ≡ b
       refusal e = cc
   records-by lent false e =
       let h = ltb-false (length lent) (needed (page_of ws' xs' [])) e in

@@ -1,12 +1,11 @@
 -- Demand 3 at exit of every call that does it: plain, over records, from C; and chains that mix them.
-use Rattle.std.specs.Prelude.{◌≡◌, refl, List, ℕ, Float}
+use Rattle.steps.specs.declared.Refusal.{Refusal}
+use Rattle.std.specs.Prelude.{◌≡◌, refl, List, ℕ, Float, Result, Ok}
 use Rattle.std.proofs.Math.Path.{sym, ap}
 use Rattle.std.proofs.Common.{◌∙◌, subst}
 use Rattle.steps.specs.Noes.{relayout_tested}
 use Rattle.steps.specs.Results.{Reply, layout_result, relayout_result}
-use Rattle.steps.specs.declared.Answer.{Answer}
 use Rattle.steps.specs.declared.LayoutInput.{LayoutInput}
-use Rattle.steps.specs.declared.Tested.TheVariants.{Pass}
 use Rattle.laws.specs.Tables.{SameShape, Named}
 use Rattle.layout.specs.Public.{Replied}
 use Rattle.asked.specs.Halves.{one_word}
@@ -18,8 +17,8 @@ use Rattle.claims.specs.EveryCall.{Left}
 use Rattle.claims.proofs.EndsAlike.{same-result, records-by}
 
 module _ (ws : List ℕ) (xs : List Float) (q : LayoutInput) (rs : List Float) (ms : List ℕ) (ws' : List ℕ) (xs' : List Float) (cw : List ℕ) (cx : List Float) (es : List ℕ) (p : LayoutInput) (left : Left ws xs q rs ms) (shape : SameShape ws ws')
-    (named : Named es ws xs ws' xs') (pass : relayout_tested ws' xs' rs ms cw cx es p ≡ Pass) where
-  pub relayout-ends-so : (a b : Answer) (r1 r2 : List Float) (m1 m2 w1 w2 : List ℕ) (x1 x2 : List Float) → Replied (relayout_result ws' xs' rs ms cw cx es p) a r1 m1 w1 x1 → Replied (layout_result ws' xs' rs ms cw cx p) b r2 m2 w2 x2 → Alike a b r1 r2 m1 m2 w1 w2 x1 x2
+    (named : Named es ws xs ws' xs') (pass : relayout_tested ws' xs' rs ms cw cx es p ≡ Ok tt) where
+  pub relayout-ends-so : (a b : Result ℕ Refusal) (r1 r2 : List Float) (m1 m2 w1 w2 : List ℕ) (x1 x2 : List Float) → Replied (relayout_result ws' xs' rs ms cw cx es p) a r1 m1 w1 x1 → Replied (layout_result ws' xs' rs ms cw cx p) b r2 m2 w2 x2 → Alike a b r1 r2 m1 m2 w1 w2 x1 x2
   relayout-ends-so a b r1 r2 m1 m2 w1 w2 x1 x2 x y = one_reply _ _ a b r1 r2 m1 m2 w1 w2 x1 x2 (same-result ws xs q rs ms ws' xs' cw cx es p left shape named pass) x y
 
   -- from C: one word, and the same memory
@@ -30,7 +29,7 @@ module _ (ws : List ℕ) (xs : List Float) (q : LayoutInput) (rs : List Float) (
       (one_word _ r s z.answer_is y.answer_is, z.rows_are ∙ sym y.rows_are, z.marks_are ∙ sym y.marks_are, z.pairs_are ∙ sym y.pairs_are, z.triples_are ∙ sym y.triples_are)
 
   -- over records
-  pub records-relayout-ends-so : (lent : List Record) (a b : Answer) (r1 r2 : List Float) (m1 m2 w1 w2 : List ℕ) (x1 x2 : List Float) (o1 o2 : List Record) → RecordsReplied (relayout_records_result ws' xs' rs ms cw cx lent es p) a r1 m1 w1 x1 o1
+  pub records-relayout-ends-so : (lent : List Record) (a b : Result ℕ Refusal) (r1 r2 : List Float) (m1 m2 w1 w2 : List ℕ) (x1 x2 : List Float) (o1 o2 : List Record) → RecordsReplied (relayout_records_result ws' xs' rs ms cw cx lent es p) a r1 m1 w1 x1 o1
       → RecordsReplied (layout_records_result ws' xs' rs ms cw cx lent p) b r2 m2 w2 x2 o2 → Alike a b r1 r2 m1 m2 w1 w2 x1 x2 × (o1 ≡ o2)
   records-relayout-ends-so lent a b r1 r2 m1 m2 w1 w2 x1 x2 o1 o2 x y =
       let e = records-by ws xs q rs ms ws' xs' cw cx es p left shape named pass lent _ refl in

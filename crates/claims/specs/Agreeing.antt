@@ -1,5 +1,6 @@
 -- Demand 3, second half, at exit of every call that does it: two pages that differ only below kept nodes end alike.
-use Rattle.std.specs.Prelude.{◌≡◌, refl, ◌||◌, ℕ, ◌+◌, ◌<◌, Float}
+use Rattle.steps.specs.declared.Refusal.TheVariants.{Lengths, Room}
+use Rattle.std.specs.Prelude.{◌≡◌, refl, ◌||◌, ℕ, ◌+◌, ◌<◌, Float, Ok}
 use Rattle.std.proofs.Math.Path.{sym, ap}
 use Rattle.std.proofs.Common.{◌∙◌}
 use mathlib.Core.List.{List, []}
@@ -15,9 +16,7 @@ use Rattle.steps.specs.Candidates.{Candidate, needed_t, needed_f, needed}
 use Rattle.steps.specs.Noes.{bad_tables, bad_rows, no5, refuse_if, page_tested, layout_tested}
 use Rattle.steps.specs.Results.{Reply}
 use Rattle.steps.specs.declared.LayoutInput.{LayoutInput}
-use Rattle.steps.specs.declared.Answer.TheVariants.{Lengths, Room}
 use Rattle.tables.proofs.Passing.{then_pass_1, then_pass_2}
-use Rattle.steps.specs.declared.Tested.TheVariants.{Pass}
 use Rattle.laws.specs.Tables.{SameShape}
 use Rattle.laws.specs.Parsed.{on_label, parse-map, parse-same}
 use Rattle.records.specs.Results.{RecordsReply, with_records}
@@ -75,7 +74,7 @@ module _ (ws : List ℕ) (xs : List Float) (ws' : List ℕ) (xs' : List Float) (
       ∙ sym (wanted_is (page_of ws' xs' []))
 
 -- a page that passes every test, lent too few records: 5
-pub room_by : (ws : List ℕ) (xs rs : List Float) (ms cw : List ℕ) (cx : List Float) (lent : List Record) (q : LayoutInput) (r : RecordsReply) (s : Scarce ws xs rs ms cw cx lent q r) → layout_tested ws xs rs ms cw cx q ≡ Pass → s.answer ≡ Room
+pub room_by : (ws : List ℕ) (xs rs : List Float) (ms cw : List ℕ) (cx : List Float) (lent : List Record) (q : LayoutInput) (r : RecordsReply) (s : Scarce ws xs rs ms cw cx lent q r) → layout_tested ws xs rs ms cw cx q ≡ Ok tt → s.answer ≡ Room
 unfolding layout_tested
 room_by ws xs rs ms cw cx lent q r s e =
     let l = refuse_if (bad_tables ws xs || bad_rows ws rs ms) Lengths in

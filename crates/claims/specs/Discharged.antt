@@ -1,12 +1,11 @@
 -- Tables that pass the tests are a page: the crate of the tests proves it, so demand 3 holds of the public calls with nothing left to suppose.
-use Rattle.std.specs.Prelude.{◌≡◌, ◌||◌, List, [], ℕ, Float}
+use Rattle.steps.specs.declared.Refusal.TheVariants.{Lengths}
+use Rattle.std.specs.Prelude.{◌≡◌, ◌||◌, List, [], ℕ, Float, Ok}
 use Rattle.limits.specs.Bools.{or_left}
 use Rattle.tree.specs.Tree.{Tree, Forest, node, none, more}
 use Rattle.steps.specs.Page.{Site, page_of}
 use Rattle.steps.specs.Noes.{bad_tables, bad_rows, no5, refuse_if, page_tested, layout_tested}
 use Rattle.steps.specs.declared.LayoutInput.{LayoutInput}
-use Rattle.steps.specs.declared.Answer.TheVariants.{Lengths}
-use Rattle.steps.specs.declared.Tested.TheVariants.{Pass}
 use Rattle.tables.specs.Leaves as tables
 use Rattle.tables.proofs.Passing.{sized, page_passes, then_pass_1, then_pass_2, if_pass}
 use Rattle.tables.proofs.GoodPage.{leaf_site, good_page}
@@ -23,7 +22,7 @@ mutual
   leaves_f none h = h
   leaves_f (more t ts) h = (leaves_t t h.0, leaves_f ts h.1)
 
-passed : (ws : List ℕ) (xs rs : List Float) (ms cw : List ℕ) (cx : List Float) (q : LayoutInput) → layout_tested ws xs rs ms cw cx q ≡ Pass → Sound ws xs
+passed : (ws : List ℕ) (xs rs : List Float) (ms cw : List ℕ) (cx : List Float) (q : LayoutInput) → layout_tested ws xs rs ms cw cx q ≡ Ok tt → Sound ws xs
 unfolding layout_tested
 passed ws xs rs ms cw cx q e =
     let b = or_left (bad_tables ws xs) _ (if_pass (bad_tables ws xs || bad_rows ws rs ms) Lengths (then_pass_1 (refuse_if (bad_tables ws xs || bad_rows ws rs ms) Lengths) _ e)) in

@@ -1,11 +1,10 @@
 -- The theorem of lent tables: a layout accepts them, and number 22 (the ratio) equals 0 at every node.
-use Rattle.std.specs.Prelude.{◌≡◌, true, false, List, [], ℕ, ◌<◌, Float}
+use Rattle.std.specs.Prelude.{◌≡◌, true, false, List, [], ℕ, ◌<◌, Float, Ok}
 use Rattle.tree.specs.Tree.{map_t}
 use Rattle.steps.specs.Page.{nodes_in, page_of}
 use Rattle.steps.specs.Layout.{fresh}
 use Rattle.steps.specs.Results.{layout_result, rows_out, marks_out}
 use Rattle.steps.specs.declared.LayoutInput.{LayoutInput}
-use Rattle.steps.specs.declared.Answer.TheVariants.{Done}
 use Rattle.laws.specs.Answers.{layout_accepted}
 use Rattle.classes.specs.Margins.{MarT, val_t, Values, Sum}
 use Rattle.classes.specs.Spots.{SpotT, ParentT, box_at_t, ClassOf}
@@ -19,7 +18,7 @@ use Rattle.classes.proofs.Rows.{boxes_are_rows}
 use Rattle.classes.specs.OnTables.{NoRatios, AllFit, boxes_on, plain_page, fit_page, some_node}
 
 -- ---- the theorem
-module _ (ws : List ℕ) (xs rs : List Float) (ms cw : List ℕ) (cx : List Float) (q : LayoutInput) (k : ℕ) (accepted : (layout_result ws xs rs ms cw cx q).answer ≡ Done k) where
+module _ (ws : List ℕ) (xs rs : List Float) (ms cw : List ℕ) (cx : List Float) (q : LayoutInput) (k : ℕ) (accepted : (layout_result ws xs rs ms cw cx q).answer ≡ Ok k) where
   some : 0 < nodes_in ws
   some = some_node ws xs rs ms cw cx q (layout_accepted ws xs rs ms cw cx q k accepted).passed
 

@@ -1,15 +1,14 @@
 -- Without ratio there is no bridge.
-use Rattle.std.specs.Prelude.{◌≡◌, refl, Bool, true, false, cond, ◌&&◌, ◌||◌, not, Float}
+use Rattle.std.specs.Option.{option_or}
+use Rattle.geometry.specs.declared.Size.{Size}
+use Rattle.std.specs.Prelude.{◌≡◌, refl, Bool, true, false, cond, ◌&&◌, ◌||◌, not, Float, Option, None, Some, is_some, unwrap_or}
 use Rattle.std.proofs.Common.{sym, ap, subst, ◌∙◌, true≢false}
 use Rattle.std.specs.Float.{nan, inf, fin, binary32}
 use Rattle.std.specs.Float.Ieee.{lt, le, eq, is_nan, of_bits, add}
 use Rattle.geometry.specs.Geometry.{zero_f, down, plus}
 use Rattle.geometry.specs.declared.Rect.{Rect}
 use Rattle.util.specs.Math.{larger, clamped}
-use Rattle.util.specs.Maybe.{unwrap_or, is_some, or_else, clamp_opt, floor_opt, ratio_fills}
-use Rattle.util.specs.declared.OptionF32.{OptionF32}
-use Rattle.util.specs.declared.OptionF32.TheVariants.{None, Some}
-use Rattle.util.specs.declared.OptionSize.{OptionSize}
+use Rattle.util.specs.Maybe.{clamp_opt, floor_opt, ratio_fills}
 use Rattle.length.specs.Length.{resolved_rect}
 use Rattle.style.specs.declared.Style.{Style}
 use Rattle.style.specs.declared.Overflow.{Overflow}
@@ -30,15 +29,14 @@ use Rattle.classes.specs.Heights.{height_known, height_content}
 
 -- ---- A: no height
 
-abbrev inner : Frame → OptionF32
+abbrev inner : Frame → Option Float
 inner f = Some (inner_width f)
 
 -- A of a child, which J's question took too
 abbrev sz : Frame → Style → Sizing
 sz f s = sizing_of s (inner f) f.heightBasis
 
-not_some : (o : OptionF32) → is_some o ≡ false → o ≡ None
-unfolding is_some
+not_some : (o : Option Float) → is_some o ≡ false → o ≡ None
 not_some None e = refl
 not_some (Some x) e = absurd (true≢false e)
 
@@ -46,13 +44,13 @@ asked_none : (f : Frame) (s : Style) → (sz f s).size.height ≡ None → (ques
 unfolding question_to child_input asked_height item_of clamp_opt floor_opt
 asked_none f s e = rw (e)
 
-known_by : (d lo hi : OptionF32) (pb : Float)
-    → or_else (floor_opt (or_else None (or_else d (clamp_opt None lo hi))) pb) (clamp_opt (floor_opt (or_else None (or_else d (clamp_opt None lo hi))) pb) lo hi) ≡ floor_opt d pb
-unfolding or_else floor_opt clamp_opt
+known_by : (d lo hi : Option Float) (pb : Float)
+    → option_or (floor_opt (option_or None (option_or d (clamp_opt None lo hi))) pb) (clamp_opt (floor_opt (option_or None (option_or d (clamp_opt None lo hi))) pb) lo hi) ≡ floor_opt d pb
+unfolding floor_opt clamp_opt
 known_by None lo hi pb = refl
 known_by (Some x) lo hi pb = refl
 
-known_height : (s : Style) (z : Sizing) (asked : OptionSize) → s.ratio ≡ None → asked.height ≡ None → z.size.height ≡ None → (known_of s z asked).height ≡ floor_opt (decided z.min.height z.max.height) (down z.both)
+known_height : (s : Style) (z : Sizing) (asked : Size (Option Float)) → s.ratio ≡ None → asked.height ≡ None → z.size.height ≡ None → (known_of s z asked).height ≡ floor_opt (decided z.min.height z.max.height) (down z.both)
 unfolding known_of step_d filled step_b known_axis ratio_fills
 known_height s z asked e a h = rw (e, a, h) (known_by (decided z.min.height z.max.height) z.min.height z.max.height (down z.both))
 
@@ -64,28 +62,28 @@ le_number (fin s m d) nan e = sym e
 le_number b (inf t) e = refl
 le_number b (fin t n d) e = refl
 
-decided_some : (lo hi : OptionF32) (x : Float) → decided lo hi ≡ Some x → (lo ≡ Some x) × (is_nan x ≡ false)
+decided_some : (lo hi : Option Float) (x : Float) → decided lo hi ≡ Some x → (lo ≡ Some x) × (is_nan x ≡ false)
 unfolding decided
 decided_some None hi x e = absurd (none-some x e)
   where
     none-some : (x : Float) → None ≡ Some x → ⊥
-    none-some x e = true≢false (ap (λ (o : OptionF32). elim o [ None ↦ true | Some z ↦ false ]) e)
+    none-some x e = true≢false (ap (λ (o : Option Float). elim o [ None ↦ true | Some z ↦ false ]) e)
 decided_some (Some a) None x e = absurd (none-some x e)
   where
     none-some : (x : Float) → None ≡ Some x → ⊥
-    none-some x e = true≢false (ap (λ (o : OptionF32). elim o [ None ↦ true | Some z ↦ false ]) e)
+    none-some x e = true≢false (ap (λ (o : Option Float). elim o [ None ↦ true | Some z ↦ false ]) e)
 decided_some (Some a) (Some b) x e = go (le b a) refl e
   where
     go : (t : Bool) → le b a ≡ t → cond t (Some a) None ≡ Some x → (Some a ≡ Some x) × (is_nan x ≡ false)
-    go true q h = (h, subst (λ (w : Float). is_nan w ≡ false) (ap (λ (o : OptionF32). elim o [ None ↦ zero_f | Some z ↦ z ]) h) (le_number b a q))
-    go false q h = absurd (true≢false (ap (λ (o : OptionF32). elim o [ None ↦ true | Some z ↦ false ]) h))
+    go true q h = (h, subst (λ (w : Float). is_nan w ≡ false) (ap (λ (o : Option Float). elim o [ None ↦ zero_f | Some z ↦ z ]) h) (le_number b a q))
+    go false q h = absurd (true≢false (ap (λ (o : Option Float). elim o [ None ↦ true | Some z ↦ false ]) h))
 
 -- ---- the frame of a child
 
-abbrev pd : Frame → Style → Rect
+abbrev pd : Frame → Style → Rect Float
 pd f s = resolved_rect s.padding (inner f)
 
-abbrev bd : Frame → Style → Rect
+abbrev bd : Frame → Style → Rect Float
 bd f s = resolved_rect s.border (inner f)
 
 abbrev pub fr : Frame → Style → Frame
@@ -183,11 +181,11 @@ zero_zero = refl
 
 inset_top : (f : Frame) (s : Style) → Flat f s → Zero (fr f s).inset.top
 unfolding insets plus gutter
-inset_top f s h = subst (λ (r : Rect). Zero r.top) (sym (fr_inset f s)) (zero_add _ _ (zero_add _ _ h.p_top h.b_top) zero_zero)
+inset_top f s h = subst (λ (r : Rect Float). Zero r.top) (sym (fr_inset f s)) (zero_add _ _ (zero_add _ _ h.p_top h.b_top) zero_zero)
 
 inset_bottom : (f : Frame) (s : Style) → Flat f s → Zero (fr f s).inset.bottom
 unfolding insets plus gutter
-inset_bottom f s h = subst (λ (r : Rect). Zero r.bottom) (sym (fr_inset f s)) (zero_add _ _ (zero_add _ _ h.p_bottom h.b_bottom) (subst Zero (sym (no_bar s h.plain)) zero_zero))
+inset_bottom f s h = subst (λ (r : Rect Float). Zero r.bottom) (sym (fr_inset f s)) (zero_add _ _ (zero_add _ _ h.p_bottom h.b_bottom) (subst Zero (sym (no_bar s h.plain)) zero_zero))
 
 floor_zero : (f : Frame) (s : Style) → Flat f s → Zero (down (plus (pd f s) (bd f s)))
 unfolding plus
@@ -205,16 +203,16 @@ content_zero f s c h e y =
 held_not : (f : Frame) (s : Style) (h : Float) → still_own_end (fr f s) h ≡ true → ((fr f s).ownEnd ≡ true) × (held_open (sz f s).min.height h ≡ false)
 unfolding still_own_end
 held_not f s h e =
-    (left _ (not (held_open (fr f s).minHeight h)) e, ap (λ (o : OptionF32). held_open o h) (sym (fr_min f s)) ∙ not_true _ (right (fr f s).ownEnd _ e))
+    (left _ (not (held_open (fr f s).minHeight h)) e, ap (λ (o : Option Float). held_open o h) (sym (fr_min f s)) ∙ not_true _ (right (fr f s).ownEnd _ e))
 
 -- step L, with what the frame has
-level_is : (f : Frame) (s : Style) (content : Float) (k : OptionF32) → (fr f s).height ≡ k
+level_is : (f : Frame) (s : Style) (content : Float) (k : Option Float) → (fr f s).height ≡ k
     → step_l (fr f s) content ≡ larger (unwrap_or k (clamped content (sz f s).min.height (sz f s).max.height)) (down (plus (pd f s) (bd f s)))
 unfolding step_l
-level_is f s content k e = ap (λ (o : OptionF32). larger (unwrap_or o (clamped content (fr f s).minHeight (fr f s).maxHeight)) (fr f s).floor) e ∙ rw (fr_min f s, fr_max f s, fr_floor f s)
+level_is f s content k e = ap (λ (o : Option Float). larger (unwrap_or o (clamped content (fr f s).minHeight (fr f s).maxHeight)) (fr f s).floor) e ∙ rw (fr_min f s, fr_max f s, fr_floor f s)
 
 zero_height : (f : Frame) (s : Style) (c : Cursor) → s.ratio ≡ None → Flat f s → c.y ≡ (fr f s).inset.top → still_own_end (fr f s) (step_l (fr f s) (step_k (fr f s) c)) ≡ true → Zero (step_l (fr f s) (step_k (fr f s) c))
-unfolding unwrap_or floor_opt
+unfolding floor_opt
 zero_height f s c r h y o = go (decided (sz f s).min.height (sz f s).max.height) refl
   where
     e : (fr f s).ownEnd ≡ true
@@ -223,13 +221,13 @@ zero_height f s c r h y o = go (decided (sz f s).min.height (sz f s).max.height)
     shut : held_open (sz f s).min.height (step_l (fr f s) (step_k (fr f s) c)) ≡ false
     shut = (held_not f s _ o).1
 
-    known : (d : OptionF32) → decided (sz f s).min.height (sz f s).max.height ≡ d → (fr f s).height ≡ floor_opt d (down (sz f s).both)
+    known : (d : Option Float) → decided (sz f s).min.height (sz f s).max.height ≡ d → (fr f s).height ≡ floor_opt d (down (sz f s).both)
     known d q =
         fr_height f s
         ∙ known_height s (sz f s) (question_to f s).known r (asked_none f s (not_some _ (end_none f s e))) (not_some _ (end_none f s e))
-        ∙ ap (λ (w : OptionF32). floor_opt w (down (sz f s).both)) q
+        ∙ ap (λ (w : Option Float). floor_opt w (down (sz f s).both)) q
 
-    go : (d : OptionF32) → decided (sz f s).min.height (sz f s).max.height ≡ d → Zero (step_l (fr f s) (step_k (fr f s) c))
+    go : (d : Option Float) → decided (sz f s).min.height (sz f s).max.height ≡ d → Zero (step_l (fr f s) (step_k (fr f s) c))
     go None q =
         let l = level_is f s (step_k (fr f s) c) None (known None q) ∙ ap (λ (w : Float). larger (clamped w (sz f s).min.height (sz f s).max.height) (down (plus (pd f s) (bd f s)))) (content_zero f s c h e y) in
         subst Zero (sym l) (height_content (sz f s).min.height (sz f s).max.height _ (floor_zero f s h) (ap (held_open (sz f s).min.height) (sym l) ∙ shut))
@@ -238,7 +236,7 @@ zero_height f s c r h y o = go (decided (sz f s).min.height (sz f s).max.height)
         let l = level_is f s (step_k (fr f s) c) (Some (larger x (down (sz f s).both))) (known (Some x) q) in
         subst Zero (sym l)
         (height_known x (down (sz f s).both) _ (subst Zero (sym (fr_both f s)) (floor_zero f s h)) (floor_zero f s h) d.1
-        (ap (λ (w : OptionF32). held_open w (larger (larger x (down (sz f s).both)) (down (plus (pd f s) (bd f s))))) (sym d.0) ∙ ap (held_open (sz f s).min.height) (sym l) ∙ shut))
+        (ap (λ (w : Option Float). held_open w (larger (larger x (down (sz f s).both)) (down (plus (pd f s) (bd f s))))) (sym d.0) ∙ ap (held_open (sz f s).min.height) (sym l) ∙ shut))
 
 -- own start, own end as L leaves it, nothing stacked: through
 pub no_bridge : (f : Frame) (s : Style) (c : Cursor) → s.ratio ≡ None → (fr f s).ownStart ≡ true → still_own_end (fr f s) (step_l (fr f s) (step_k (fr f s) c)) ≡ true

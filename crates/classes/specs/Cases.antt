@@ -1,9 +1,8 @@
 -- Eight more pages, from their tables: boxes that are through, that are passed out, and gaps of both signs. What is told of each was worked out beforehand, by programs that share no code with this one.
-use Rattle.std.specs.Prelude.{◌≡◌, refl, true, false, List, [], ◌∷◌, map, ℕ, ◌*◌, replicate, Float}
+use Rattle.std.specs.Prelude.{◌≡◌, refl, true, false, List, [], ◌∷◌, map, ℕ, ◌*◌, replicate, Float, None, Some}
 use Rattle.std.specs.Float.Ieee.{of_bits}
 use Rattle.std.specs.Float.{binary32}
 use Rattle.geometry.specs.Geometry.{zero_f}
-use Rattle.util.specs.declared.OptionF32.TheVariants.{None, Some}
 use Rattle.length.specs.declared.AvailableSpace.TheVariants.{Definite, MinContent}
 use Rattle.steps.specs.Page.{nodes_in}
 use Rattle.steps.specs.Question.{root_input}

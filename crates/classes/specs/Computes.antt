@@ -1,5 +1,5 @@
 -- On a page whose pixel margins are 32-bit numbers the plain engine computes step J's gap.
-use Rattle.std.specs.Prelude.{◌≡◌, refl, Bool, true, false, T, Float}
+use Rattle.std.specs.Prelude.{◌≡◌, refl, Bool, true, false, T, Float, Option, None, Some}
 use Rattle.std.proofs.Common.{sym, subst}
 use Rattle.std.specs.Float.Ieee.{fits}
 use Rattle.std.specs.Float.{binary32}
@@ -7,8 +7,6 @@ use Rattle.std.specs.Float.Ieee.Bits.{of_bits-fits}
 use Rattle.std.specs.Float.Ieee.Fits.{mul-fits}
 use Rattle.geometry.specs.Geometry.{zero_f}
 use Rattle.util.specs.Maybe.{or_zero}
-use Rattle.util.specs.declared.OptionF32.{OptionF32}
-use Rattle.util.specs.declared.OptionF32.TheVariants.{None, Some}
 use Rattle.length.specs.Length.{resolved_or_zero, resolved, scaled}
 use Rattle.length.specs.declared.Length.{Length}
 use Rattle.length.specs.declared.Length.TheVariants.{Auto, Pixels, Fraction}
@@ -37,8 +35,8 @@ FitL Auto = Unit {0}
 FitL (Pixels x) = F32 x
 FitL (Fraction f) = Unit {0}
 
-fit_resolved : (l : Length) (b : OptionF32) → FitL l → F32 (resolved_or_zero l b)
-unfolding resolved_or_zero resolved or_zero scaled
+fit_resolved : (l : Length) (b : Option Float) → FitL l → F32 (resolved_or_zero l b)
+unfolding resolved_or_zero resolved scaled
 fit_resolved Auto b h = of_bits-fits binary32 0
 fit_resolved (Pixels x) b h = h
 fit_resolved (Fraction f) None h = of_bits-fits binary32 0

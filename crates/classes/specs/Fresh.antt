@@ -1,7 +1,6 @@
 -- The theorem of a fresh layout.
-use Rattle.std.specs.Prelude.{◌≡◌, refl, false, Float}
+use Rattle.std.specs.Prelude.{◌≡◌, refl, false, Float, None}
 use Rattle.std.proofs.Common.{sym, subst}
-use Rattle.util.specs.declared.OptionF32.TheVariants.{None}
 use Rattle.tree.specs.Tree.{Tree, Forest, node, none, more, map_t}
 use Rattle.steps.specs.Row.{is_laid}
 use Rattle.steps.specs.Page.{Site, Cell, Node, blank}

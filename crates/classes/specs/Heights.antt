@@ -1,5 +1,5 @@
 -- A box with all four paddings and borders 0, no height of its own and nothing stacked: its height is 0, or its minimum holds it open.
-use Rattle.std.specs.Prelude.{◌≡◌, refl, Bool, true, false, cond, ◌||◌, not, ◌*◌, Float}
+use Rattle.std.specs.Prelude.{◌≡◌, refl, Bool, true, false, cond, ◌||◌, not, ◌*◌, Float, Option, None, Some}
 use Rattle.std.proofs.Common.{sym, ap, subst, ◌∙◌, true≢false, eq-eqb}
 use Rattle.std.specs.Bool.{beq}
 use Rattle.std.specs.Float.{nan, inf, fin}
@@ -7,8 +7,6 @@ use Rattle.std.specs.Float.Ieee.{up, down, lt, le, eq, is_nan, of_bits}
 use Rattle.geometry.specs.Geometry.{zero_f}
 use Rattle.util.specs.Math.{larger, smaller, capped, floored, clamped}
 use Rattle.util.specs.Order.{lt_asym, lt_none, lt_number, number_lt}
-use Rattle.util.specs.declared.OptionF32.{OptionF32}
-use Rattle.util.specs.declared.OptionF32.TheVariants.{None, Some}
 use Rattle.steps.specs.Height.{held_open}
 use Rattle.classes.specs.Zero.{Zero, zero_number, zero_above, zero_below, zero_of}
 
@@ -64,7 +62,7 @@ height_known x pb floor p f n h = go (lt zero_f x) refl
         zero_larger (larger x pb) floor (zero_number (larger x pb) z) (zero_above (larger x pb) z) f
 
 -- 0 with a maximum is a number not above 0
-capped_real : (hi : OptionF32) → (is_nan (capped zero_f hi) ≡ false) × (lt zero_f (capped zero_f hi) ≡ false)
+capped_real : (hi : Option Float) → (is_nan (capped zero_f hi) ≡ false) × (lt zero_f (capped zero_f hi) ≡ false)
 unfolding capped smaller
 capped_real None = (zero_real, self (lt zero_f zero_f) refl)
   where
@@ -85,7 +83,7 @@ second_is : (v x : Float) (t : Bool) → lt v x ≡ t → larger v x ≡ cond t 
 unfolding larger
 second_is v x t e = ap (λ (b : Bool). cond b x v) e
 
-floored_height : (v : Float) (lo : OptionF32) (floor : Float) → is_nan v ≡ false → lt zero_f v ≡ false → Zero floor → held_open lo (larger (floored v lo) floor) ≡ false → Zero (larger (floored v lo) floor)
+floored_height : (v : Float) (lo : Option Float) (floor : Float) → is_nan v ≡ false → lt zero_f v ≡ false → Zero floor → held_open lo (larger (floored v lo) floor) ≡ false → Zero (larger (floored v lo) floor)
 unfolding floored
 floored_height v None floor n a f h = zero_larger v floor n a f
 floored_height v (Some x) floor n a f h = go (lt v x) (lt zero_f x) refl refl
@@ -97,6 +95,6 @@ floored_height v (Some x) floor n a f h = go (lt v x) (lt zero_f x) refl refl
     go true false e d = subst (λ (w : Float). Zero (larger w floor)) (sym (second_is v x true e)) (zero_larger x floor (lt_number v x e) d f)
     go false u e d = subst (λ (w : Float). Zero (larger w floor)) (sym (second_is v x false e)) (zero_larger v floor n a f)
 
-pub height_content : (lo hi : OptionF32) (floor : Float) → Zero floor → held_open lo (larger (clamped zero_f lo hi) floor) ≡ false → Zero (larger (clamped zero_f lo hi) floor)
+pub height_content : (lo hi : Option Float) (floor : Float) → Zero floor → held_open lo (larger (clamped zero_f lo hi) floor) ≡ false → Zero (larger (clamped zero_f lo hi) floor)
 unfolding clamped
 height_content lo hi floor f h = let v = capped_real hi in floored_height (capped zero_f hi) lo floor v.0 v.1 f h

@@ -1,20 +1,18 @@
 -- The theorem of lent tables: a layout accepts them, and number 22 (the ratio) equals 0 at every node.
-use Rattle.std.specs.Prelude.{◌≡◌, Bool, true, false, cond, ◌||◌, List, [], ℕ, zero, suc, ◌<◌, T, ltb, get_or, Float}
+use Rattle.steps.specs.declared.Refusal.TheVariants.{Lengths}
+use Rattle.std.specs.Prelude.{◌≡◌, Bool, true, false, cond, ◌||◌, List, [], ℕ, zero, suc, ◌<◌, T, ltb, get_or, Float, None, Ok}
 use Rattle.std.proofs.Common.{ap, arith}
 use Rattle.std.specs.Float.Ieee.{eq, fits}
 use Rattle.std.specs.Float.{binary32}
 use Rattle.std.specs.Float.Ieee.Bits.{of_bits-fits}
 use Rattle.geometry.specs.Geometry.{zero_f}
 use Rattle.limits.specs.Bools.{or_left}
-use Rattle.util.specs.declared.OptionF32.TheVariants.{None}
 use Rattle.style.specs.Codes.{length_of, ratio_of}
 use Rattle.style.specs.Style.{plane_of, number_place, number_at, length_at, rect_at, style_at}
 use Rattle.tree.specs.Tree.{Tree}
 use Rattle.steps.specs.Page.{site_at, nodes_in, page_of}
 use Rattle.steps.specs.Noes.{bad_tables, bad_rows, refuse_if, layout_tested}
 use Rattle.steps.specs.declared.LayoutInput.{LayoutInput}
-use Rattle.steps.specs.declared.Answer.TheVariants.{Lengths}
-use Rattle.steps.specs.declared.Tested.TheVariants.{Pass}
 use Rattle.tables.proofs.Passing.{sized, then_pass_1, if_pass}
 use Rattle.laws.specs.Trees.{AllT}
 use Rattle.laws.specs.Parsed.{all_parse}
@@ -75,7 +73,7 @@ unfolding page_of
 fit_page ws xs p h = all_parse FitS (site_at ws xs [] 0) (nodes_in ws) p (λ i l. rw (site_style ws xs [] i) (margins_fit ws xs i h))
 
 -- tables that a layout accepts hold a node
-pub some_node : (ws : List ℕ) (xs rs : List Float) (ms cw : List ℕ) (cx : List Float) (q : LayoutInput) → layout_tested ws xs rs ms cw cx q ≡ Pass → 0 < nodes_in ws
+pub some_node : (ws : List ℕ) (xs rs : List Float) (ms cw : List ℕ) (cx : List Float) (q : LayoutInput) → layout_tested ws xs rs ms cw cx q ≡ Ok tt → 0 < nodes_in ws
 unfolding layout_tested
 some_node ws xs rs ms cw cx q e =
     let b = if_pass (bad_tables ws xs || bad_rows ws rs ms) Lengths (then_pass_1 (refuse_if (bad_tables ws xs || bad_rows ws rs ms) Lengths) _ e) in

@@ -1,8 +1,7 @@
 -- The theorem of a page: on a layout with nothing kept and no ratio.
-use Rattle.std.specs.Prelude.{◌≡◌, refl, Bool, true, false, Float}
+use Rattle.std.specs.Prelude.{◌≡◌, refl, Bool, true, false, Float, None}
 use Rattle.std.proofs.Common.{sym, ap, subst, ◌∙◌}
 use Rattle.geometry.specs.Geometry.{zero_f}
-use Rattle.util.specs.declared.OptionF32.TheVariants.{None}
 use Rattle.tree.specs.Tree.{Tree, Forest, node, none, more}
 use Rattle.style.specs.Flow.{is_leaf, flow_of}
 use Rattle.steps.specs.Stack.{start_of, question_to, stepped, past_through, past_aside, past_hidden}

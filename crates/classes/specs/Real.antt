@@ -1,11 +1,10 @@
 -- The boxes of a page as the steps lay it out; the stack of Plain on them is the stack of the steps.
-use Rattle.std.specs.Prelude.{◌≡◌, refl, Bool, true, false, cond, ◌&&◌, Float}
+use Rattle.std.specs.Prelude.{◌≡◌, refl, Bool, true, false, cond, ◌&&◌, Float, Option}
 use Rattle.std.proofs.Common.{sym, ap, subst, ◌∙◌}
 use Rattle.std.specs.Float.Ieee.{lt}
 use Rattle.geometry.specs.Floats.{◌⊕◌}
 use Rattle.geometry.specs.Geometry.{zero_f}
 use Rattle.util.specs.Math.{larger, smaller}
-use Rattle.util.specs.declared.OptionF32.{OptionF32}
 use Rattle.length.specs.Length.{resolved_or_zero, resolved_rect}
 use Rattle.style.specs.declared.Style.{Style}
 use Rattle.tree.specs.Tree.{Tree, Forest, node, none, more, root_t}
@@ -171,7 +170,7 @@ cut_aside : (c : Cursor) → cut (past_aside c) ≡ cut c
 unfolding past_aside
 cut_aside c = refl
 
-abbrev line_after : Frame → Cursor → BlockItem → LayoutOutput → OptionF32
+abbrev line_after : Frame → Cursor → BlockItem → LayoutOutput → Option Float
 line_after f c i o = baseline_past c.baseline (place_y f c i o) o.baseline
 
 cut_stepped : (f : Frame) (c : Cursor) (i : BlockItem) (o : LayoutOutput) → cut (stepped f c i o) ≡ past (cut c) o.through (top_margins i o) (bottom_margins i o)

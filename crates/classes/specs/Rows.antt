@@ -1,10 +1,8 @@
 -- The boxes are the laid nodes of the page: their numbers, heights and through are those of the rows.
-use Rattle.std.specs.Prelude.{◌≡◌, refl, Bool, true, false, ℕ, ◌<◌, Float}
+use Rattle.std.specs.Prelude.{◌≡◌, refl, Bool, true, false, ℕ, ◌<◌, Float, Option, None, Some}
 use Rattle.std.proofs.Common.{sym, ap, ◌∙◌}
 use Rattle.geometry.specs.Geometry.{zero_f}
 use Rattle.geometry.specs.declared.Point.{Point}
-use Rattle.util.specs.declared.OptionF32.{OptionF32}
-use Rattle.util.specs.declared.OptionF32.TheVariants.{None, Some}
 use Rattle.style.specs.Codes.{flag_at}
 use Rattle.style.specs.Flow.{flow_of}
 use Rattle.style.specs.declared.Style.{Style}
@@ -62,7 +60,7 @@ record Alike (g : Row → Row) : Type 0 where
   says : (s : Site) (r : Row) → said_row s (g r) ≡ said_row s r
   laid : (r : Row) → is_laid (g r) ≡ is_laid r
 
-put_alike : (p : Point) (n : ℕ) → Alike (put_at p n)
+put_alike : (p : Point Float) (n : ℕ) → Alike (put_at p n)
 unfolding put_at is_laid
 put_alike p n = record { says = λ s r. refl; laid = λ r. refl }
 
@@ -84,7 +82,7 @@ lower_f_lem d none us = refl
 lower_f_lem d (more t ts) none = refl
 lower_f_lem d (more t ts) (more u us) = rw (on_root_lem (lowered d) (lower_alike d) u, on_t (lowered d) (lower_alike d) t u, lower_f_lem d ts us)
 
-pub align_f_lem : (d : OptionF32) (ks : Forest Site) (us : Forest Row) → laid_f ks (align_f d us) ≡ laid_f ks us
+pub align_f_lem : (d : Option Float) (ks : Forest Site) (us : Forest Row) → laid_f ks (align_f d us) ≡ laid_f ks us
 unfolding align_f
 align_f_lem None ks us = refl
 align_f_lem (Some d) ks us = lower_f_lem d ks us

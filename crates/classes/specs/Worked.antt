@@ -1,11 +1,10 @@
 -- Worked: the gap of a class of six margins; and a page with a ratio, where the gap is not the sum of the class.
-use Rattle.std.specs.Prelude.{◌≡◌, refl, ◌⊎◌, Bool, true, false, List, [], ◌∷◌, map, ℕ, set, replicate, Float}
+use Rattle.std.specs.Prelude.{◌≡◌, refl, ◌⊎◌, Bool, true, false, List, [], ◌∷◌, map, ℕ, set, replicate, Float, None, Some}
 use Rattle.std.proofs.Common.{inl, inr}
 use Rattle.std.specs.Float.Ieee.{lt, add, of_bits, to_bits}
 use Rattle.std.specs.Float.{binary32}
 use Rattle.geometry.specs.Geometry.{zero_f}
 use Rattle.util.specs.Math.{larger, smaller}
-use Rattle.util.specs.declared.OptionF32.TheVariants.{None, Some}
 use Rattle.length.specs.declared.AvailableSpace.TheVariants.{MaxContent}
 use Rattle.style.specs.Style.{number_place}
 use Rattle.tree.specs.Tree.{Tree, node, none, more}

@@ -22,7 +22,7 @@ use Rattle.steps.specs.Noes.{end_at, holds, bad_tree}
 use Rattle.tables.specs.Refusals.{Sound}
 use Rattle.shape.proofs.Fronts.{holds-yes, holds-no, holds-true, nested}
 use Rattle.edges.specs.Edges.{row_number, outward, edge_by}
-use Rattle.coarse.specs.Panel.{span_of, far_node}
+use Rattle.coarse.specs.Panel.{span_of, far_node, box_of}
 use Rattle.coarse.specs.Spans.{seen_of}
 use Rattle.coarse.specs.Above.{chosen, above, before, trimmed, stacked, climb, climbed}
 
@@ -240,5 +240,5 @@ module _ (ws : List ℕ) (n : ℕ) (all : nodes_in ws ≡ n) (sound : Sound (bad
     edge-too f = ap (λ (l : List ℕ). climbed rs l f i) are-above ∙ climb_is ws rs f i
 
     pub seen-too : (ms : List ℕ) → seen_of (climbed rs (stacked up r)) rs ms i ≡ seen_of (edge_by ws rs) rs ms i
-    unfolding seen_of far_node span_of
+    unfolding seen_of far_node box_of span_of
     seen-too ms = rw (edge-too 0, edge-too 1)

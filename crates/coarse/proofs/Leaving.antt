@@ -6,6 +6,8 @@
 --     size-stays     a box whose far edge is not below its near edge has no negative size
 --     size-kept-on   nor has a box whose size in the row is not below 0
 --     not-laid       a node that is not laid has zeros
+use Rattle.std.specs.Prelude.{Result, Ok, ⊤, Err}
+use Rattle.coarse.specs.declared.CoarseRefusal.{CoarseRefusal}
 use mathlib.Core.Path.{◌≡◌, refl, sym, ap, subst, ◌∙◌}
 use mathlib.Core.Bool.{true, false}
 use mathlib.Core.List.{List, [], ◌∷◌}
@@ -31,8 +33,6 @@ use Rattle.coarse.specs.Panel.{laid_at, span_of, too_far, far_node, on_pixels, b
 use Rattle.coarse.specs.Coarse.{Panel, box_at, coarse_answer, by_answer, coarse_result, Coarsened}
 use Rattle.coarse.specs.Sides.{Axis, across, down, Side, near, far, axis_no, edge_on, size_on, pixel_on}
 use Rattle.coarse.specs.declared.PixelBox.{PixelBox}
-use Rattle.coarse.specs.declared.CoarseAnswer.{CoarseAnswer}
-use Rattle.coarse.specs.declared.CoarseAnswer.TheVariants.{Shown, Refused, TooFar}
 use Rattle.coarse.proofs.Spans.{near_in, far_in, across-in, down-in, box-laid, box_none}
 use Rattle.coarse.proofs.Filling.{more-boxes}
 use Rattle.coarse.proofs.Making.{accepted}
@@ -60,20 +60,19 @@ four_of box j (suc n) (suc i) k d h l =
     rw (q, more-boxes box j n, ← z) (four_of box (j + 1) n i k d (omega arith) l)
 
 -- only an accepted call answers Shown
-only_shown : (a : CoarseAnswer) (new lent : List ℤ) → Shown ≡ (by_answer a new lent).answer → a ≡ Shown
+only_shown : (a : Result ⊤ CoarseRefusal) (new lent : List ℤ) → Ok tt ≡ (by_answer a new lent).answer → a ≡ Ok tt
 unfolding by_answer
-only_shown Shown new lent e = refl
-only_shown (Refused r) new lent e = sym e
-only_shown (TooFar i) new lent e = sym e
+only_shown (Ok _) new lent e = refl
+only_shown (Err a) new lent e = sym e
 
 module _ (ws : List ℕ) (rs : List Float) (ms : List ℕ) (lent : List ℤ) where
   -- what was lent does not matter
-  pub lent-aside : coarse_answer ws rs ms (length lent) ≡ Shown → coarse_result ws rs ms lent ≡ record { answer = Shown; out = boxes_of (box_at ws rs ms) 0 (nodes_in ws) }
+  pub lent-aside : coarse_answer ws rs ms (length lent) ≡ Ok tt → coarse_result ws rs ms lent ≡ record { answer = Ok tt; out = boxes_of (box_at ws rs ms) 0 (nodes_in ws) }
   unfolding coarse_result by_answer
   lent-aside e = rw e
 
-  module _ (out : List ℤ) (call : Coarsened (coarse_result ws rs ms lent) Shown out) where
-    was-shown : coarse_answer ws rs ms (length lent) ≡ Shown
+  module _ (out : List ℤ) (call : Coarsened (coarse_result ws rs ms lent) (Ok tt) out) where
+    was-shown : coarse_answer ws rs ms (length lent) ≡ Ok tt
     unfolding coarse_result
     was-shown = only_shown (coarse_answer ws rs ms (length lent)) _ lent call.answer_is
 

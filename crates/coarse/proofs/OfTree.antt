@@ -1,4 +1,5 @@
 -- The edges that the code finds by going outward are the tree's, so 12 and the boxes are too.
+use Rattle.std.specs.Prelude.{None}
 use mathlib.Core.Path.{◌≡◌, refl, sym, ◌∙◌}
 use mathlib.Core.Bool.{Bool, true, false}
 use mathlib.Core.List.{List}
@@ -7,7 +8,6 @@ use native.Mathlib.Omega.{arith}
 use lib.Ieee.{Float}
 use Rattle.steps.specs.Page.{nodes_in}
 use Rattle.steps.specs.Scan.{scan, lowest, at_node}
-use Rattle.steps.specs.declared.Found.TheVariants.{Nowhere}
 use Rattle.tables.specs.TreeCheck.{GoodTable}
 use Rattle.tables.proofs.ScanLaws.{none_left, next-no, next-yes}
 use Rattle.edges.specs.Edges.{edge_by}
@@ -38,7 +38,7 @@ module _ (ws : List ℕ) (rs : List Float) (ms : List ℕ) (good : GoodTable ws)
   box_is i l = rw (edge_is ws rs 0 i good l, edge_is ws rs 1 i good l)
 
   pub lowest-is : lowest (far_node (edge_by ws rs) rs ms) (nodes_in ws) ≡ lowest (far_at ws rs ms) (nodes_in ws)
-  lowest-is = scan_same (far_node (edge_by ws rs) rs ms) (far_at ws rs ms) at_node Nowhere 0 (nodes_in ws) (λ j a b. far-is j (omega arith))
+  lowest-is = scan_same (far_node (edge_by ws rs) rs ms) (far_at ws rs ms) at_node None 0 (nodes_in ws) (λ j a b. far-is j (omega arith))
 
   -- none of the tree's edges is too far: none of those that the code finds
   pub sound-too : ((i : ℕ) → i < nodes_in ws → far_at ws rs ms i ≡ false) → (i : ℕ) → i < nodes_in ws → far_node (edge_by ws rs) rs ms i ≡ false

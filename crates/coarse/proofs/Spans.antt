@@ -1,6 +1,7 @@
 -- What it says of a node that 12 is not due: both edges on both axes are below the limit, and its box is the panel's.
 use mathlib.Core.Path.{◌≡◌, refl, sym, ap, ◌∙◌}
-use mathlib.Core.Bool.{Bool, true, false, ◌&&◌, ◌||◌}
+use Rattle.std.specs.Prelude.{not, None, Some, is_some}
+use mathlib.Core.Bool.{Bool, true, false, cond, ◌&&◌, ◌||◌}
 use mathlib.Core.List.{List}
 use Prim.Native.Nat.{ℕ}
 use lib.Ieee.{Float}
@@ -8,8 +9,7 @@ use Rattle.geometry.specs.declared.Line.{Line}
 use Rattle.limits.specs.Bools.{or_left, or_right}
 use Rattle.limits.specs.Limits.{too_large}
 use Rattle.coarse.specs.Panel.{laid_at, span_of, too_far, far_node, on_pixels, no_box, box_of}
-use Rattle.coarse.specs.Spans.{pixel_span, box_by, seen_by, seen_of}
-use Rattle.coarse.specs.declared.Seen.{Seen}
+use Rattle.coarse.specs.Spans.{pixel_span, seen_by, seen_of, seen_place}
 
 pub near_in : (s : Line) → too_far s ≡ false → too_large s.start ≡ false
 unfolding too_far
@@ -19,9 +19,11 @@ pub far_in : (s : Line) → too_far s ≡ false → too_large s.end ≡ false
 unfolding too_far
 far_in s e = or_right (too_large s.start) _ e
 
-pub box_by_lem : (across down : Line) → too_far across ≡ false → too_far down ≡ false → box_by (pixel_span across) (pixel_span down) ≡ on_pixels across down
+pub by_spans : (across down : Line) (a b : Bool) → too_far across ≡ a → too_far down ≡ b → seen_by (pixel_span across) (pixel_span down) ≡ cond (too_far across || too_far down) None (Some (on_pixels across down))
 unfolding pixel_span on_pixels
-box_by_lem across down e f = rw (e, f)
+by_spans across down true b e f = rw e
+by_spans across down false true e f = rw (e, f)
+by_spans across down false false e f = rw (e, f)
 
 module _ (near : ℕ → ℕ → Float) (rs : List Float) (ms : List ℕ) (i : ℕ) where
   -- a laid node that passes
@@ -46,17 +48,25 @@ module _ (near : ℕ → ℕ → Float) (rs : List Float) (ms : List ℕ) (i : �
   box_none e = rw e
 
   -- as the walk sees it
-  pub seen_none : laid_at ms i ≡ false → record { far = false; place = no_box } ≡ seen_of near rs ms i
-  unfolding seen_of far_node
+  pub seen_none : laid_at ms i ≡ false → Some no_box ≡ seen_of near rs ms i
+  unfolding seen_of far_node box_of
   seen_none e = rw e
 
   pub seen-laid : laid_at ms i ≡ true → seen_by (pixel_span (span_of near rs 0 i)) (pixel_span (span_of near rs 1 i)) ≡ seen_of near rs ms i
-  unfolding seen_of far_node pixel_span
-  seen-laid e = rw e
+  unfolding seen_of far_node box_of
+  seen-laid e = by_spans (span_of near rs 0 i) (span_of near rs 1 i) _ _ refl refl ∙ rw e
 
-  pub box-seen : far_node near rs ms i ≡ false → (seen_of near rs ms i).place ≡ box_of near rs ms i
-  box-seen q = go (laid_at ms i) refl
+  pub box-seen : far_node near rs ms i ≡ false → seen_place near rs ms i ≡ box_of near rs ms i
+  unfolding seen_of
+  box-seen q = rw q
+
+  -- 12 is due where nothing is seen
+  pub far_none : (b : Bool) → is_some (seen_of near rs ms i) ≡ not b → far_node near rs ms i ≡ b
+  unfolding seen_of
+  far_none b q = go (far_node near rs ms i) b q
     where
-      go : (b : Bool) → laid_at ms i ≡ b → (seen_of near rs ms i).place ≡ box_of near rs ms i
-      go true e = ap (λ (s : Seen). s.place) (sym (seen-laid e)) ∙ box_by_lem _ _ (across-in e q) (down-in e q) ∙ sym (box-laid e)
-      go false e = ap (λ (s : Seen). s.place) (sym (seen_none e)) ∙ sym (box_none e)
+      go : (a b : Bool) → is_some (cond a None (Some (box_of near rs ms i))) ≡ not b → a ≡ b
+      go true true q = refl
+      go true false q = sym q
+      go false true q = sym q
+      go false false q = refl

@@ -1,4 +1,9 @@
 -- The ways that the tests of coarse return.
+use Rattle.steps.specs.declared.Refusal.TheVariants.{Lengths}
+use Rattle.steps.specs.declared.Refusal.{Refusal}
+use Rattle.coarse.specs.declared.CoarseRefusal.TheVariants.{Plain}
+use Rattle.std.specs.Prelude.{Option, Ok, Err}
+use Rattle.tree.specs.declared.NodeId.{NodeId}
 use mathlib.Core.Path.{◌≡◌, sym, ap, ◌∙◌}
 use mathlib.Core.Bool.{true, false, ◌||◌}
 use mathlib.Core.List.{List}
@@ -9,10 +14,6 @@ use Rattle.limits.specs.Bools.{or_left}
 use Rattle.steps.specs.Page.{nodes_in}
 use Rattle.steps.specs.Scan.{lowest}
 use Rattle.steps.specs.Noes.{and_then, bad_rows, bad_tree}
-use Rattle.steps.specs.declared.Answer.{Answer}
-use Rattle.steps.specs.declared.Answer.TheVariants.{Lengths}
-use Rattle.steps.specs.declared.Tested.TheVariants.{Pass, Refuse}
-use Rattle.steps.specs.declared.Found.{Found}
 use Rattle.tables.specs.Refusals.{Sound}
 use Rattle.tables.specs.TreeCheck.{GoodTable}
 use Rattle.edges.specs.Edges.{edge_by}
@@ -21,7 +22,6 @@ use Rattle.edges.proofs.Exact.{laid-exactly}
 use Rattle.edges.proofs.Words.{worded, good_words}
 use Rattle.coarse.specs.Panel.{far_node}
 use Rattle.coarse.specs.Coarse.{bad_out, coarse_misfit, by_edge, far_at, after_tests, coarse_answer}
-use Rattle.coarse.specs.declared.CoarseAnswer.TheVariants.{Refused}
 use Rattle.coarse.proofs.OfTree.{lowest-is}
 
 pub long_out : (n out : ℕ) → bad_out n out ≡ false → out ≡ 4 * n
@@ -30,10 +30,10 @@ long_out n out e = eqb-true out (4 * n) (not-false _ e)
 
 module _ (ws : List ℕ) (rs : List Float) (ms : List ℕ) where
   -- what rows that pass 1, 2, 3 and 7 say of the words
-  module _ (pass : rows_tested ws rs ms ≡ Pass) where
+  module _ (pass : rows_tested ws rs ms ≡ Ok tt) where
     sound : LaidSound (bad_words ws || bad_rows ws rs ms) ws ms
     unfolding rows_tested
-    sound = (laid-exactly (bad_words ws || bad_rows ws rs ms) ws ms Pass).only pass
+    sound = (laid-exactly (bad_words ws || bad_rows ws rs ms) ws ms (Ok tt)).only pass
 
     words-fit : bad_words ws ≡ false
     words-fit = or_left (bad_words ws) _ sound.lengths
@@ -48,7 +48,7 @@ module _ (ws : List ℕ) (rs : List Float) (ms : List ℕ) where
     tree-sound = sound.tree
 
   module _ (out : ℕ) where
-    pub bad-length : bad_out (nodes_in ws) out ≡ true → Refused Lengths ≡ coarse_answer ws rs ms out
+    pub bad-length : bad_out (nodes_in ws) out ≡ true → Err (Plain Lengths) ≡ coarse_answer ws rs ms out
     unfolding coarse_answer coarse_misfit laid_tested and_then after_tests
     bad-length e = rw e
 
@@ -57,11 +57,11 @@ module _ (ws : List ℕ) (rs : List Float) (ms : List ℕ) where
       unfolding coarse_answer coarse_misfit rows_tested
       answer_is = rw fits
 
-      pub rows-refused : (a : Answer) → rows_tested ws rs ms ≡ Refuse a → Refused a ≡ coarse_answer ws rs ms out
+      pub rows-refused : (a : Refusal) → rows_tested ws rs ms ≡ Err a → Err (Plain a) ≡ coarse_answer ws rs ms out
       unfolding after_tests
       rows-refused a e = sym (answer_is ∙ rw e)
 
       -- f is what the code's search for 12 found
-      pub rows-passed : (f : Found) → rows_tested ws rs ms ≡ Pass → lowest (far_node (edge_by ws rs) rs ms) (nodes_in ws) ≡ f → by_edge f ≡ coarse_answer ws rs ms out
+      pub rows-passed : (f : Option NodeId) → rows_tested ws rs ms ≡ Ok tt → lowest (far_node (edge_by ws rs) rs ms) (nodes_in ws) ≡ f → by_edge f ≡ coarse_answer ws rs ms out
       unfolding after_tests
       rows-passed f e q = ap by_edge (sym q ∙ lowest-is ws rs ms (good e)) ∙ sym (answer_is ∙ rw e)

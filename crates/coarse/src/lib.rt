@@ -7,7 +7,8 @@ ghost use Rattle.steps.specs.Page.{nodes_in};
 ghost use Rattle.steps.specs.Noes.{holds, bad_tree};
 ghost use Rattle.tables.specs.Refusals.{Sound};
 ghost use Rattle.edges.specs.Edges.{edge_by};
-ghost use Rattle.coarse.specs.Panel.{laid_at, span_of, too_far, far_node, boxes_of};
+ghost use Rattle.coarse.specs.declared.CoarseRefusal.TheVariants.{Plain};
+ghost use Rattle.coarse.specs.Panel.{laid_at, span_of, too_far, far_node, no_box, boxes_of};
 ghost use Rattle.coarse.specs.Spans.{pixel_span, box_by, seen_by, seen_of, seen_place, box_put};
 ghost use Rattle.coarse.specs.Above.{stacked, trimmed, climbed};
 ghost use Rattle.coarse.specs.Coarse.{bad_out, coarse_answer, coarse_result, Coarsened};
@@ -15,16 +16,23 @@ ghost use Rattle.coarse.specs.Coarse.{bad_out, coarse_answer, coarse_result, Coa
 use edges::{row_number, rows_tested};
 use geometry::Line;
 use pixel::{pixels_between, whole_pixel};
-use steps::{Answer, Found, Tested};
+use steps::Refusal;
 use style::{flag, word};
 use tree::NodeId;
 
-// What coarse answers: the boxes are there, one of the earlier noes, or 12 with its node.
+// Why coarse refuses: one of the earlier noes, or 12 with its node.
 #[derive(Clone, Copy)]
-pub enum CoarseAnswer {
-    Shown,
-    Refused(Answer),
+pub enum CoarseRefusal {
+    Plain(Refusal),
     TooFar(NodeId),
+}
+
+impl From<Refusal> for CoarseRefusal {
+    ghost from_gives = { λ no refusal. refusal ≡ Plain no };
+
+    fn from(no: Refusal) -> CoarseRefusal {
+        CoarseRefusal::Plain(no)
+    }
 }
 
 // A box in whole pixels.
@@ -36,19 +44,11 @@ pub struct PixelBox {
     pub height: i32,
 }
 
-// A node along one axis in whole pixels; zeros where an edge is too large.
+// A node along one axis in whole pixels.
 #[derive(Clone, Copy)]
 pub struct PixelSpan {
-    pub far: bool,
     pub near: i32,
     pub size: i32,
-}
-
-// A node: whether 12 is due of it, and its box.
-#[derive(Clone, Copy)]
-pub struct Seen {
-    pub far: bool,
-    pub place: PixelBox,
 }
 
 // Bit 0 of row i.
@@ -71,9 +71,7 @@ fn edge(rows: &[f32], up: &[u32; 32], d: usize, f: usize, i: usize) -> f32
     ensures { result ≡ climbed rows.now (stacked up.now d) f i }
 {
     let mut edge = row_number(rows, i, f);
-    let mut k = d;
-    while 0 < k {
-        k -= 1;
+    for k in (0..d).rev() {
         edge = edge + row_number(rows, wide(up[k]), f);
     }
     edge
@@ -84,15 +82,13 @@ fn still_above(words: &[u32], up: &[u32; 32], d: usize, i: usize) -> usize
     requires { d ≤ 32 }
     ensures { (result ≤ d) × (stacked up.now result ≡ trimmed (holds words.now i) (stacked up.now d)) }
 {
-    let mut k = d;
-    while 0 < k {
-        let j = wide(up[k - 1]);
+    for k in (0..d).rev() {
+        let j = wide(up[k]);
         if i < j + wide(word(words, j, style::SIZE)) {
-            return k;
+            return k + 1;
         }
-        k -= 1;
     }
-    k
+    0
 }
 
 // Near and far edge of node i.
@@ -117,30 +113,19 @@ fn too_far(s: Line) -> bool
     limits::too_large(s.end)
 }
 
-// Node i along axis f, tested and rounded at once: one body for both axes and both walks.
-fn pixel_span(rows: &[f32], up: &[u32; 32], d: usize, f: usize, i: usize) -> PixelSpan
+// Node i along axis f, tested and rounded at once: one body for both axes and both walks. None: an edge is too large.
+fn pixel_span(rows: &[f32], up: &[u32; 32], d: usize, f: usize, i: usize) -> Option<PixelSpan>
     requires { (d ≤ 32) × (f < 2) }
     ensures { result ≡ pixel_span (span_of (climbed rows.now (stacked up.now d)) rows.now f i) }
 {
     let s = span(rows, up, d, f, i);
     if too_far(s) {
-        return PixelSpan {
-            far: true,
-            near: 0,
-            size: 0,
-        };
+        return None;
     }
-    PixelSpan {
-        far: false,
+    Some(PixelSpan {
         near: whole_pixel(s.start),
         size: pixels_between(s.start, s.end),
-    }
-}
-
-fn either(a: bool, b: bool) -> bool
-    ensures { result ≡ (a || b) }
-{
-    a || b
+    })
 }
 
 // The box of these two.
@@ -155,31 +140,34 @@ fn on_pixels(across: PixelSpan, down: PixelSpan) -> PixelBox
     }
 }
 
-// A node that is laid.
-fn seen_by(across: PixelSpan, down: PixelSpan) -> Seen
-    ensures { result ≡ seen_by across down }
+// What a node that is not laid gets.
+fn no_box() -> PixelBox
+    ensures { result ≡ no_box }
 {
-    Seen {
-        far: either(across.far, down.far),
-        place: on_pixels(across, down),
+    PixelBox {
+        x: 0,
+        y: 0,
+        width: 0,
+        height: 0,
     }
 }
 
-// Node i; one that is not laid is never 12, and its box is zeros.
-fn seen_at(rows: &[f32], marks: &[u32], up: &[u32; 32], d: usize, i: usize) -> Seen
+// A node that is laid.
+fn seen_by(across: Option<PixelSpan>, down: Option<PixelSpan>) -> Option<PixelBox>
+    ensures { result ≡ seen_by across down }
+{
+    let x = across?;
+    let y = down?;
+    Some(on_pixels(x, y))
+}
+
+// The box of node i, or None: 12. One that is not laid is never 12.
+fn seen_at(rows: &[f32], marks: &[u32], up: &[u32; 32], d: usize, i: usize) -> Option<PixelBox>
     requires { (d ≤ 32) × (i ≤ 1024) }
     ensures { result ≡ seen_of (climbed rows.now (stacked up.now d)) rows.now marks.now i }
 {
     if !is_laid(marks, i) {
-        return Seen {
-            far: false,
-            place: PixelBox {
-                x: 0,
-                y: 0,
-                width: 0,
-                height: 0,
-            },
-        };
+        return Some(no_box());
     }
     seen_by(pixel_span(rows, up, d, 0, i), pixel_span(rows, up, d, 1, i))
 }
@@ -200,25 +188,23 @@ fn put_box(out: &mut [i32], i: usize, b: PixelBox)
 }
 
 // 12: the lowest of n nodes that is laid and has an edge too far.
-fn first_too_far(words: &[u32], rows: &[f32], marks: &[u32], n: usize) -> Found
+fn first_too_far(words: &[u32], rows: &[f32], marks: &[u32], n: usize) -> Option<NodeId>
     requires few { n ≤ 1024 }
     requires tree { (nodes_in words.now ≡ n) × Sound (bad_tree words.now) n }
     ensures { result ≡ lowest (far_node (edge_by words.now rows.now) rows.now marks.now) n }
 {
     let mut up = [0u32; 32];
     let mut d = 0usize;
-    let mut i = 0usize;
-    while i < n {
+    for i in 0..n {
         d = still_above(words, &up, d, i);
         let s = seen_at(rows, marks, &up, d, i);
-        if s.far {
-            return Found::At(NodeId(i as u32));
+        if s.is_none() {
+            return Some(NodeId(i as u32));
         }
         up[d] = i as u32;
         d += 1;
-        i += 1;
     }
-    Found::Nowhere
+    None
 }
 
 // The boxes of n nodes, by the same way down.
@@ -230,15 +216,13 @@ fn put_boxes(words: &[u32], rows: &[f32], marks: &[u32], n: usize, out: &mut [i3
 {
     let mut up = [0u32; 32];
     let mut d = 0usize;
-    let mut i = 0usize;
-    while i < n {
+    for i in 0..n {
         d = still_above(words, &up, d, i);
         let s = seen_at(rows, marks, &up, d, i);
-        let place = s.place;
+        let place = s.unwrap_or(no_box());
         put_box(out, i, place);
         up[d] = i as u32;
         d += 1;
-        i += 1;
     }
 }
 
@@ -251,33 +235,35 @@ fn bad_out(n: usize, out: &[i32]) -> bool
 }
 
 // 1, 2, 3, 7 and 12, before any write.
-fn coarse_tested(words: &[u32], rows: &[f32], marks: &[u32], out: &[i32]) -> CoarseAnswer
+fn coarse_tested(
+    words: &[u32],
+    rows: &[f32],
+    marks: &[u32],
+    out: &[i32],
+) -> Result<(), CoarseRefusal>
     ensures { result ≡ coarse_answer words.now rows.now marks.now (length out.now) }
 {
     let n = words.len() / style::WORDS;
     if bad_out(n, out) {
-        return CoarseAnswer::Refused(Answer::Lengths);
+        return Err(CoarseRefusal::Plain(Refusal::Lengths));
     }
-    if let Tested::Refuse(a) = rows_tested(words, rows, marks) {
-        return CoarseAnswer::Refused(a);
+    rows_tested(words, rows, marks)?;
+    if let Some(i) = first_too_far(words, rows, marks, n) {
+        return Err(CoarseRefusal::TooFar(i));
     }
-    if let Found::At(i) = first_too_far(words, rows, marks, n) {
-        return CoarseAnswer::TooFar(i);
-    }
-    CoarseAnswer::Shown
+    Ok(())
 }
 
 // Near x, near y, width and height of each laid node in whole pixels, zeros for the others.
-pub fn coarse(words: &[u32], rows: &[f32], marks: &[u32], out: &mut [i32]) -> CoarseAnswer
+pub fn coarse(
+    words: &[u32],
+    rows: &[f32],
+    marks: &[u32],
+    out: &mut [i32],
+) -> Result<(), CoarseRefusal>
     ensures { Coarsened (coarse_result words.now rows.now marks.now out.old) result out.new }
 {
-    let a = coarse_tested(words, rows, marks, out);
-    match a {
-        CoarseAnswer::Shown => {
-            put_boxes(words, rows, marks, words.len() / style::WORDS, out);
-            CoarseAnswer::Shown
-        }
-        CoarseAnswer::Refused(no) => CoarseAnswer::Refused(no),
-        CoarseAnswer::TooFar(i) => CoarseAnswer::TooFar(i),
-    }
+    coarse_tested(words, rows, marks, out)?;
+    put_boxes(words, rows, marks, words.len() / style::WORDS, out);
+    Ok(())
 }

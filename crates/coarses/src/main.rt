@@ -11,5 +11,7 @@ fn main(rt: HostRuntime) {
     let mut out = [0i32; 40];
     let n = console::read_full(&mut rt.stdin(), &mut text);
     let k = reading::read_words(&text[..n], &mut all);
-    cases::run(rt.stdout(), &all, k, &mut rows, &mut out);
+    reading::each_case(&all, k, |case| {
+        cases::run_case(rt.stdout(), case, &mut rows, &mut out)
+    });
 }

@@ -7,7 +7,6 @@ ghost use Rattle.steps.specs.Scan.{lowest, some};
 ghost use Rattle.steps.specs.Page.{nodes_in};
 ghost use Rattle.steps.specs.Noes.{bad_unit, bad_word, bad_safety, bad_baseline, bad_align, bad_codes, ratio_beside_fraction, bad_style};
 
-use steps::Found;
 use style::{clear_from, code, distribution, flag, number, unit, word, word_in};
 use tree::NodeId;
 
@@ -143,33 +142,29 @@ fn bad_style(words: &[u32], numbers: &[f32], i: usize) -> bool
 }
 
 // 3: the lowest node at fault.
-pub fn first_bad_style(words: &[u32], numbers: &[f32]) -> Found
+pub fn first_bad_style(words: &[u32], numbers: &[f32]) -> Option<NodeId>
     requires { nodes_in words.now ≤ 1024 }
     ensures { result ≡ lowest (bad_style words.now numbers.now) (nodes_in words.now) }
 {
     let n = words.len() / style::WORDS;
-    let mut i = 0;
-    while i < n {
+    for i in 0..n {
         if bad_style(words, numbers, i) {
-            return Found::At(NodeId(i as u32));
+            return Some(NodeId(i as u32));
         }
-        i += 1;
     }
-    Found::Nowhere
+    None
 }
 
 // 3 by the words alone: the lowest node at fault.
-pub fn first_bad_codes(words: &[u32]) -> Found
+pub fn first_bad_codes(words: &[u32]) -> Option<NodeId>
     requires { nodes_in words.now ≤ 1024 }
     ensures { result ≡ lowest (bad_codes words.now) (nodes_in words.now) }
 {
     let n = words.len() / style::WORDS;
-    let mut i = 0;
-    while i < n {
+    for i in 0..n {
         if bad_codes(words, i) {
-            return Found::At(NodeId(i as u32));
+            return Some(NodeId(i as u32));
         }
-        i += 1;
     }
-    Found::Nowhere
+    None
 }

@@ -1,5 +1,8 @@
 -- Readers of as many numbers that agree on the 28 fields of every node, at least where the lengths pass, give one result.
-use Rattle.std.specs.Prelude.{◌≡◌, refl, Bool, true, ◌||◌, List, [], ltb, Float}
+use Rattle.steps.specs.declared.Refusal.TheVariants.{Lengths, Numbers, Room}
+use Rattle.steps.specs.declared.Refusal.{Refusal}
+use Rattle.geometry.specs.declared.Size.{Size}
+use Rattle.std.specs.Prelude.{◌≡◌, refl, Bool, true, ◌||◌, List, [], ltb, Float, Result, Ok, Err, ⊤}
 use Rattle.std.proofs.Common.{sym, ◌∙◌, arith}
 use Rattle.std.proofs.Math.Path.{ap, fun_ext}
 use Rattle.std.proofs.Math.Bool.{false}
@@ -18,10 +21,6 @@ use Rattle.steps.specs.Noes.{refuse_if, and_then, bad_rows, bad_field, bad_quest
 use Rattle.steps.specs.Results.{Reply, replied, tested, size_reply, size_by_test}
 use Rattle.steps.specs.declared.LayoutInput.{LayoutInput}
 use Rattle.steps.specs.declared.RequestedAxis.{RequestedAxis}
-use Rattle.steps.specs.declared.Answer.TheVariants.{Lengths, Numbers, Room}
-use Rattle.steps.specs.declared.SizeAnswer.{SizeAnswer}
-use Rattle.steps.specs.declared.Tested.{Tested}
-use Rattle.steps.specs.declared.Tested.TheVariants.{Pass, Refuse}
 use Rattle.tables.proofs.ScanLaws.{next-yes, next-no}
 use Rattle.tables.proofs.Passing.{then_pass_1, if_pass}
 use Rattle.columns.specs.Reader.{Reader, length_with, size_with, rect_with, measure_with, style_with, site_with, cell_with, page_with, cells_with, bad_tables_with, bad_style_with, bad_numbers_with, no4_with, no5_with, page_tested_with, layout_tested_with, relayout_tested_with, size_tested_with, layout_with, relayout_with, size_result_with}
@@ -87,20 +86,20 @@ module _ (r s : Reader) (alike : Alike r s) (ws : List ℕ) where
   same-room cw cx = ap (λ (t : Tree Site). refuse_if (ltb (records_in cw cx) (needed t)) Room) (same-page [])
 
 -- ---- a refusal by 1 asks for nothing of the numbers
-past_lengths : (b : Bool) (x y : Tested) → (b ≡ false → x ≡ y) → and_then (refuse_if b Lengths) x ≡ and_then (refuse_if b Lengths) y
+past_lengths : (b : Bool) (x y : Result ⊤ Refusal) → (b ≡ false → x ≡ y) → and_then (refuse_if b Lengths) x ≡ and_then (refuse_if b Lengths) y
 unfolding and_then
 past_lengths true x y h = refl
 past_lengths false x y h = h refl
 
-past_tests : (t : Tested) (a b : Reply) (rs : List Float) (ms cw : List ℕ) (cx : List Float) → (t ≡ Pass → a ≡ b) → tested t a rs ms cw cx ≡ tested t b rs ms cw cx
+past_tests : (t : Result ⊤ Refusal) (a b : Reply) (rs : List Float) (ms cw : List ℕ) (cx : List Float) → (t ≡ Ok tt → a ≡ b) → tested t a rs ms cw cx ≡ tested t b rs ms cw cx
 unfolding tested
-past_tests Pass a b rs ms cw cx h = h refl
-past_tests (Refuse e) a b rs ms cw cx h = refl
+past_tests (Ok _) a b rs ms cw cx h = h refl
+past_tests (Err e) a b rs ms cw cx h = refl
 
-past_size_tests : (t : Tested) (a b : SizeAnswer) → (t ≡ Pass → a ≡ b) → size_by_test t a ≡ size_by_test t b
+past_size_tests : (t : Result ⊤ Refusal) (a b : Result (Size Float) Refusal) → (t ≡ Ok tt → a ≡ b) → size_by_test t a ≡ size_by_test t b
 unfolding size_by_test
-past_size_tests Pass a b h = h refl
-past_size_tests (Refuse e) a b h = refl
+past_size_tests (Ok _) a b h = h refl
+past_size_tests (Err e) a b h = refl
 
 -- ---- the calls
 module _ (r s : Reader) (ws : List ℕ) (lent : r.lent ≡ s.lent) (alike : bad_tables_with r ws ≡ false → Alike r s) where
@@ -115,7 +114,7 @@ module _ (r s : Reader) (ws : List ℕ) (lent : r.lent ≡ s.lent) (alike : bad_
         rw (← same-lengths) (past_lengths (bad_tables_with r ws || bad_rows ws rs ms) (and_then (page_tested_with r ws q) (no5_with r ws cw cx)) (and_then (page_tested_with s ws q) (no5_with s ws cw cx)) (λ e. rw (same-page-tests r s (alike (or_left (bad_tables_with r ws) (bad_rows ws rs ms) e)) ws q, same-room r s (alike (or_left (bad_tables_with r ws) (bad_rows ws rs ms) e)) ws cw cx)))
 
     -- tests that pass: the numbers agree
-    layout-agrees : layout_tested_with s ws rs ms cw cx q ≡ Pass → Alike r s
+    layout-agrees : layout_tested_with s ws rs ms cw cx q ≡ Ok tt → Alike r s
     unfolding layout_tested_with
     layout-agrees e = alike (same-lengths ∙ or_left (bad_tables_with s ws) (bad_rows ws rs ms) (if_pass (bad_tables_with s ws || bad_rows ws rs ms) Lengths (then_pass_1 (refuse_if (bad_tables_with s ws || bad_rows ws rs ms) Lengths) (and_then (page_tested_with s ws q) (no5_with s ws cw cx)) e)))
 
@@ -134,7 +133,7 @@ module _ (r s : Reader) (ws : List ℕ) (lent : r.lent ≡ s.lent) (alike : bad_
     unfolding size_tested_with
     size-tests = rw (← same-lengths) (past_lengths (bad_tables_with r ws) (page_tested_with r ws q) (page_tested_with s ws q) (λ e. same-page-tests r s (alike e) ws q))
 
-    size-agrees : size_tested_with s ws q ≡ Pass → Alike r s
+    size-agrees : size_tested_with s ws q ≡ Ok tt → Alike r s
     unfolding size_tested_with
     size-agrees e = alike (same-lengths ∙ if_pass (bad_tables_with s ws) Lengths (then_pass_1 (refuse_if (bad_tables_with s ws) Lengths) (page_tested_with s ws q) e))
 

@@ -1,11 +1,13 @@
 -- The calls over any way of reading numbers: where crates style and steps look a number up in the lent list, these ask a reader. Engine.antt shows that nothing else differs.
-use Rattle.std.specs.Prelude.{Bool, not, ◌&&◌, ◌||◌, List, [], ℕ, ◌+◌, ◌*◌, length, eqb, ltb, Float}
+use Rattle.steps.specs.declared.Refusal.TheVariants.{Lengths, Numbers, Room}
+use Rattle.steps.specs.declared.Refusal.{Refusal}
+use Rattle.geometry.specs.declared.Size.{Size}
+use Rattle.geometry.specs.declared.Rect.{Rect}
+use Rattle.std.specs.Prelude.{Bool, not, ◌&&◌, ◌||◌, List, [], ℕ, ◌+◌, ◌*◌, length, eqb, ltb, Float, Result, ⊤}
 use Rattle.std.specs.Float.Ieee.{eq, lt}
 use Rattle.limits.specs.Limits.{in_range}
 use Rattle.geometry.specs.Geometry.{zero_f}
 use Rattle.length.specs.declared.Length.{Length}
-use Rattle.length.specs.declared.LengthRect.{LengthRect}
-use Rattle.length.specs.declared.LengthSize.{LengthSize}
 use Rattle.style.specs.Codes.{unit_of, length_of, ratio_of, baseline_of}
 use Rattle.style.specs.Style.{word_at, style_at}
 use Rattle.style.specs.declared.Measure.{Measure}
@@ -22,9 +24,6 @@ use Rattle.steps.specs.Noes.{refuse_if, and_then, bad_rows, fraction_at, bad_cod
 use Rattle.steps.specs.Results.{Reply, replied, tested, size_reply, size_by_test}
 use Rattle.steps.specs.declared.LayoutInput.{LayoutInput}
 use Rattle.steps.specs.declared.RequestedAxis.{RequestedAxis}
-use Rattle.steps.specs.declared.Answer.TheVariants.{Lengths, Numbers, Room}
-use Rattle.steps.specs.declared.SizeAnswer.{SizeAnswer}
-use Rattle.steps.specs.declared.Tested.{Tested}
 
 -- how many numbers are lent, and number f of node i
 pub record Reader : Type 0 where
@@ -35,10 +34,10 @@ pub record Reader : Type 0 where
 unfoldable pub length_with : Reader → List ℕ → ℕ → ℕ → ℕ → Length
 length_with r ws i j f = length_of (unit_of (word_at ws i 2) (word_at ws i 3) f) (r.number j f)
 
-unfoldable pub size_with : Reader → List ℕ → ℕ → ℕ → ℕ → LengthSize
+unfoldable pub size_with : Reader → List ℕ → ℕ → ℕ → ℕ → Size Length
 size_with r ws i j f = record { width = length_with r ws i j f; height = length_with r ws i j (f + 1) }
 
-unfoldable pub rect_with : Reader → List ℕ → ℕ → ℕ → ℕ → LengthRect
+unfoldable pub rect_with : Reader → List ℕ → ℕ → ℕ → ℕ → Rect Length
 rect_with r ws i j f =
     record {
       top = length_with r ws i j f;
@@ -103,23 +102,23 @@ bad_numbers_with r ws i =
     || (bad_pixels (r.number i 24)
     || (bad_pixels (r.number i 25) || (bad_pixels (r.number i 26) || (lt (r.number i 25) (r.number i 24) || not (in_range (r.number i 27) zero_f (r.number i 26))))))))
 
-unfoldable pub no4_with : Reader → List ℕ → LayoutInput → Tested
+unfoldable pub no4_with : Reader → List ℕ → LayoutInput → Result ⊤ Refusal
 no4_with r ws q = and_then (at_fault Numbers (lowest (bad_numbers_with r ws) (nodes_in ws))) (refuse_if (bad_question q) (Numbers (nodes_in ws)))
 
-unfoldable pub no5_with : Reader → List ℕ → List ℕ → List Float → Tested
+unfoldable pub no5_with : Reader → List ℕ → List ℕ → List Float → Result ⊤ Refusal
 no5_with r ws cw cx = refuse_if (ltb (records_in cw cx) (needed (page_with r ws []))) Room
 
-unfoldable pub page_tested_with : Reader → List ℕ → LayoutInput → Tested
+unfoldable pub page_tested_with : Reader → List ℕ → LayoutInput → Result ⊤ Refusal
 page_tested_with r ws q = and_then (no2 ws) (and_then (no3_by (bad_style_with r ws) ws) (no4_with r ws q))
 
-unfoldable pub layout_tested_with : Reader → List ℕ → List Float → List ℕ → List ℕ → List Float → LayoutInput → Tested
+unfoldable pub layout_tested_with : Reader → List ℕ → List Float → List ℕ → List ℕ → List Float → LayoutInput → Result ⊤ Refusal
 layout_tested_with r ws rs ms cw cx q =
     and_then (refuse_if (bad_tables_with r ws || bad_rows ws rs ms) Lengths) (and_then (page_tested_with r ws q) (no5_with r ws cw cx))
 
-unfoldable pub relayout_tested_with : Reader → List ℕ → List Float → List ℕ → List ℕ → List Float → List ℕ → LayoutInput → Tested
+unfoldable pub relayout_tested_with : Reader → List ℕ → List Float → List ℕ → List ℕ → List Float → List ℕ → LayoutInput → Result ⊤ Refusal
 relayout_tested_with r ws rs ms cw cx es q = and_then (layout_tested_with r ws rs ms cw cx q) (and_then (no6 es (nodes_in ws)) (no7 ms))
 
-unfoldable pub size_tested_with : Reader → List ℕ → LayoutInput → Tested
+unfoldable pub size_tested_with : Reader → List ℕ → LayoutInput → Result ⊤ Refusal
 size_tested_with r ws q = and_then (refuse_if (bad_tables_with r ws) Lengths) (page_tested_with r ws q)
 
 -- ---- the whole result of each call
@@ -131,5 +130,5 @@ unfoldable pub relayout_with : Reader → List ℕ → List Float → List ℕ �
 relayout_with r ws rs ms cw cx es q =
     tested (relayout_tested_with r ws rs ms cw cx es q) (replied (nodes_in ws) (relaid (cells_with r ws rs ms es) q).rows rs ms cw cx) rs ms cw cx
 
-unfoldable pub size_result_with : Reader → List ℕ → LayoutInput → RequestedAxis → SizeAnswer
+unfoldable pub size_result_with : Reader → List ℕ → LayoutInput → RequestedAxis → Result (Size Float) Refusal
 size_result_with r ws q a = size_by_test (size_tested_with r ws q) (size_reply (size_of (page_with r ws []) q a))

@@ -157,9 +157,9 @@ module _ (ws : List ℕ) (xs rs : List Float) (ms es : List ℕ) (b : ℕ) (f : 
       item-placed end q o i rs1 rs' ms1 ms' e hq ha refl (subst (λ (j : BlockItem). Becomes rs1 ms1 rs' ms' (put_at (place_of f c j o) c.shown.0)) w k.1) (k.0 ∙ ap (λ (j : BlockItem). stepped f c j o) w)
 
 -- what `settle` leaves
-pub settled : (rs rs' : List Float) (ms ms' : List ℕ) (f : Frame) (c : Cursor) (i : Footing) (o : LayoutOutput) (end : Cursor) (p : Point) → ((z : Sizing) → p ≡ place_of f c (item_with z i) o)
+pub settled : (rs rs' : List Float) (ms ms' : List ℕ) (f : Frame) (c : Cursor) (i : Footing) (o : LayoutOutput) (end : Cursor) (p : Point Float) → ((z : Sizing) → p ≡ place_of f c (item_with z i) o)
     → Becomes rs ms rs' ms' (put_at p c.shown.0) → ((z : Sizing) → end ≡ stepped f c (item_with z i) o) → Settled rs ms f c i o end rs' ms'
-settled rs rs' ms ms' f c i o end p hp hb he z = (he z, subst (λ (x : Point). Becomes rs ms rs' ms' (put_at x c.shown.0)) (hp z) hb)
+settled rs rs' ms ms' f c i o end p hp hb he z = (he z, subst (λ (x : Point Float). Becomes rs ms rs' ms' (put_at x c.shown.0)) (hp z) hb)
 
 -- a leaf's row, and what is cleared after it
 clear_rest : {A : Type 0} (x z l nr : List A) (v : A) (k n : ℕ) → length x ≡ k → l ≡ x ++ z → length l ≡ n → nr ≡ replicate (length (take (length l - k) (drop k l))) v → put_mid k (length l - k) l nr ≡ x ++ replicate (n - k) v

@@ -1,4 +1,5 @@
 -- Steps L to N in plain terms: the container's own row, then the shift of the rows below it.
+use Rattle.std.specs.Prelude.{Option, None, Some}
 use mathlib.Core.Path.{◌≡◌, refl, sym, ap, ◌∙◌}
 use mathlib.Core.List.{List, ◌++◌}
 use Prim.Native.Nat.{ℕ, ◌+◌, ◌-◌}
@@ -6,8 +7,6 @@ use native.Mathlib.Omega.{arith}
 use lib.ListN.{length, take, drop, length-append, length-drop}
 use lib.Ieee.{Float}
 use borrow.Rule.Slice.PartMut.{put_mid}
-use Rattle.util.specs.declared.OptionF32.{OptionF32}
-use Rattle.util.specs.declared.OptionF32.TheVariants.{None, Some}
 use Rattle.style.specs.Style.{style_at}
 use Rattle.tree.specs.Tree.{Tree, Forest, node, none, more, flat_t, flat_f, on_root}
 use Rattle.tree.proofs.Laws.{flat_t_node, flat_f_more, on_root_node}
@@ -38,7 +37,7 @@ marks_lower : (d : Float) (ts : Forest Row) → flat_f new_words (lower_f d ts) 
 marks_lower d none = rw (lower_f_none d)
 marks_lower d (more t ts) = rw (lower_f_more, flat_f_more, flat_f_more, lower_root d t, marks_lower d ts)
 
-marks_align : (s : OptionF32) (ts : Forest Row) → flat_f new_words (align_f s ts) ≡ flat_f new_words ts
+marks_align : (s : Option Float) (ts : Forest Row) → flat_f new_words (align_f s ts) ≡ flat_f new_words ts
 unfolding align_f
 marks_align None ts = refl
 marks_align (Some d) ts = marks_lower d ts

@@ -1,7 +1,6 @@
 -- What the members of the engine's cycle promise: at any tree that has these tables, memory ends as the definition says.
-use Rattle.std.specs.Prelude.{◌≡◌, Bool, not, ◌&&◌, List, ◌++◌, ℕ, ◌+◌, ◌*◌, ◌-◌, ◌≤◌, ◌<◌, length, drop, replicate, Float}
+use Rattle.std.specs.Prelude.{◌≡◌, Bool, not, ◌&&◌, List, ◌++◌, ℕ, ◌+◌, ◌*◌, ◌-◌, ◌≤◌, ◌<◌, length, drop, replicate, Float, Option}
 use Rattle.geometry.specs.Geometry.{zero_f}
-use Rattle.util.specs.declared.OptionF32.{OptionF32}
 use Rattle.style.specs.Style.{word_at, plane_of, style_at}
 use Rattle.tree.specs.Tree.{Tree, Forest, node, count_f, flat_t, flat_f, map_t, map_f}
 use Rattle.tree.specs.Table.{from}
@@ -52,7 +51,7 @@ LaidF ws xs rs ms es b f out rs' ms' =
     (l : Cell) (ks : Forest Cell) → TabledT ws xs rs ms es b (node l ks) → StackIs f l.old (lay_f (map_f staying ks) f (start_of f)) out rs' ms'
 
 -- step M on every forest of rows
-abbrev pub Aligned : List ℕ → List Float → List ℕ → OptionF32 → List Float → Type 0
+abbrev pub Aligned : List ℕ → List Float → List ℕ → Option Float → List Float → Type 0
 Aligned ws rs ms shift after = (ts : Forest Row) → RowsOf ws rs ms ts → after ≡ flat_f new_numbers (align_f shift ts)
 
 -- a leaf's row, and zeros after it

@@ -12,16 +12,15 @@ use stacking::Footing;
 use steps::{Cursor, Frame, LayoutInput, LayoutOutput};
 use style::Flow;
 use tree::Order;
-use util::OptionF32;
 
 // Step M, where there is a shift.
-fn align(words: &[u32], rows: &mut [f32], marks: &[u32], shift: OptionF32)
+fn align(words: &[u32], rows: &mut [f32], marks: &[u32], shift: Option<f32>)
     requires { IsRows words.now rows.old marks.now }
     ensures { Aligned words.now rows.old marks.now shift rows.new }
 {
     match shift {
-        OptionF32::None => {}
-        OptionF32::Some(d) => walks::lower(words, rows, marks, d),
+        None => {}
+        Some(d) => walks::lower(words, rows, marks, d),
     }
 }
 
@@ -166,6 +165,7 @@ fn perform_final_layout_on_in_flow_children(
 {
     let mut cursor = stacking::start_of(frame);
     let mut child = 1usize;
+    // No `for`: a step is as long as its run.
     while style::WORDS * child < words.len() {
         let end = child + style::word_in(words, child, style::SIZE) as usize;
         let w0 = style::WORDS * child;

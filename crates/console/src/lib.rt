@@ -1,9 +1,10 @@
 // Standard input and output for the programs: bytes and numbers, with no memory but what the caller lends.
 #![tactic(auto)]
 
-ghost use Rattle.std.specs.Prelude.{◌≡◌, ◌≤◌, length, slice_index, EachIndex, take, IsTrue, decimal};
+ghost use Rattle.std.specs.Prelude.{◌≡◌, ℕ, ◌≤◌, ◌++◌, length, slice_index, EachIndex, take, IsTrue, decimal};
 ghost use Rattle.std.specs.Io.KnownBytes.{Appends, Consumes};
 ghost use Rattle.console.specs.Digits.{eight_hex};
+ghost use Rattle.console.specs.Marks.{mark, SplitsAtMark};
 
 use std::io::{Read, Write};
 
@@ -28,6 +29,7 @@ pub fn read_full<R: Read>(from: &mut R, room: &mut [u8]) -> usize
     ensures bytes { Consumes (R.remaining from.old) (R.remaining from.new) (take result room.new) }
 {
     let mut done = 0;
+    // No `for`: a step is what a read gave.
     while done < room.len() {
         match from.read(&mut room[done..]) {
             Ok(0) => return done,
@@ -50,6 +52,67 @@ pub fn print_hex<W: Write>(to: &mut W, n: u32) -> bool
     ensures { IsTrue result → Appends (W.contents to.old) (W.contents to.new) (eight_hex n) }
 {
     write!(to, "{n:08x}").is_ok()
+}
+
+// Writes a line: the word of each number in hexadecimal, a blank in front of it.
+pub fn print_line<W: Write, T: Copy, F: Fn(T) -> u32>(to: &mut W, numbers: &[T], word: F)
+    requires { F.IsAlwaysCallable word }
+{
+    for number in numbers {
+        write_all(to, b" ");
+        print_hex(to, word(*number));
+    }
+    write_all(to, b"\n");
+}
+
+// Ends each file where several stand in one text.
+const MARK: &[u8] = b"====\n";
+
+// The text before the first mark, and the text behind that mark; with no mark all of it, and nothing.
+fn split_at_mark(text: &[u8]) -> (&[u8], &[u8])
+    ensures { SplitsAtMark text.now result.0.now result.1.now }
+{
+    match text.windows(MARK.len()).position(|w| w == MARK) {
+        Some(at) => (&text[..at], &text[at + MARK.len()..]),
+        None => (text, &[]),
+    }
+}
+
+// Writes what `answer` gives for a file, and a mark: false if a write fails. It puts its answer at the start of `room` and says how long that is.
+pub fn answer_file<W: Write, F: Fn(&[u8], &mut [u8]) -> usize>(
+    to: &mut W,
+    file: &[u8],
+    room: &mut [u8],
+    answer: F,
+) -> bool
+    requires callable { F.IsAlwaysCallable answer }
+    requires within { (f : _) (r : _) (n : _) (r' : _) → F.post answer f r n r' → n ≤ length r'.now }
+    ensures { IsTrue result → (f : _) × (r : _) × (n : ℕ) × (r' : _) × F.post answer f r n r'
+        × (f.now ≡ file.now) × (r.now ≡ room.old) × (r'.now ≡ room.new)
+        × Appends (W.contents to.old) (W.contents to.new) (take n room.new ++ mark) }
+{
+    let n = answer(file, room);
+    let written = write_all(to, &room[..n]);
+    write_all(to, MARK) && written
+}
+
+// The same for each file of a text.
+pub fn answer_files<W: Write, F: Fn(&[u8], &mut [u8]) -> usize>(
+    to: &mut W,
+    text: &[u8],
+    room: &mut [u8],
+    answer: F,
+)
+    requires callable { F.IsAlwaysCallable answer }
+    requires within { (f : _) (r : _) (n : _) (r' : _) → F.post answer f r n r' → n ≤ length r'.now }
+{
+    let mut rest = text;
+    // No `for`: a step is a file and its mark.
+    while !rest.is_empty() {
+        let (file, behind) = split_at_mark(rest);
+        answer_file(to, file, room, &answer);
+        rest = behind;
+    }
 }
 
 #[cfg(test)]

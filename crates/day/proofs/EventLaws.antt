@@ -1,4 +1,6 @@
 -- What the functions of one event promise, put together. Assumes nothing.
+use Rattle.std.specs.Prelude.{Result}
+use Rattle.steps.specs.declared.Refusal.{Refusal}
 use mathlib.Core.Path.{◌≡◌, refl, sym, ◌∙◌, ap}
 use mathlib.Core.Bool.{Bool, true, false}
 use mathlib.Core.List.{List}
@@ -11,20 +13,10 @@ use lib.Ieee.{Float}
 use borrow.Author.Tests.{ne_eqb, ltb-true, ltb-false}
 use Rattle.steps.specs.Noes.{paper}
 use Rattle.steps.specs.Results.{Reply}
-use Rattle.steps.specs.declared.Answer.{Answer}
 use Rattle.layout.specs.Public.{Replied}
 use Rattle.day.specs.Day.{Outcome, day, left, call_event, count_after, EventReplied}
 use Rattle.day.specs.declared.State.{State}
 use Rattle.day.specs.declared.Turn.{Turn}
-
--- an accepted call, and a refused one
-pub emptied : (a : Answer) (c : ℕ) → (paper a).0 ≡ 0 → 0 ≡ count_after a c
-unfolding count_after
-emptied a c e = rw e
-
-pub stands : (a : Answer) (c : ℕ) → ((paper a).0 ≡ 0 → ⊥) → c ≡ count_after a c
-unfolding count_after
-stands a c h = rw (ne_eqb (paper a).0 0 h)
 
 min_by : (c : ℕ) (l : List ℕ) (b : Bool) → ltb c (length l) ≡ b → take (min c (length l)) l ≡ take c l
 min_by c l true e =
@@ -39,7 +31,7 @@ pub cut_list : (c : ℕ) (l : List ℕ) → take (min c (length l)) l ≡ take c
 cut_list c l = min_by c l (ltb c (length l)) refl
 
 -- what a layout or a relayout left is the event's outcome
-pub called : (s : State) (ws : List ℕ) (xs rs : List Float) (ms cw : List ℕ) (cx : List Float) (l : List ℕ) (want : Reply) (a : Answer) (c : ℕ) (rs' : List Float) (ms' cw' : List ℕ) (cx' : List Float)
+pub called : (s : State) (ws : List ℕ) (xs rs : List Float) (ms cw : List ℕ) (cx : List Float) (l : List ℕ) (want : Reply) (a : Result ℕ Refusal) (c : ℕ) (rs' : List Float) (ms' cw' : List ℕ) (cx' : List Float)
     → Replied want a rs' ms' cw' cx' → c ≡ count_after a s.count
     → left (record { answer = a; state = record { question = s.question; count = c } }) ws xs rs' ms' cw' cx' l ≡ call_event want (day s ws xs rs ms cw cx l)
 unfolding call_event

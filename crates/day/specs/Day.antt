@@ -1,12 +1,11 @@
 -- A day of a display: what one event answers and leaves, and a trace of events one after the other.
-use Rattle.std.specs.Prelude.{◌≡◌, Bool, cond, List, [], ◌∷◌, ℕ, take, eqb, Float}
-use Rattle.util.specs.declared.OptionSize.{OptionSize}
+use Rattle.steps.specs.declared.Refusal.{Refusal}
+use Rattle.geometry.specs.declared.Size.{Size}
+use Rattle.std.specs.Prelude.{◌≡◌, Bool, cond, List, [], ◌∷◌, ℕ, take, eqb, Float, Option, Result, Ok, Err}
 use Rattle.length.specs.declared.AvailableSpace.{AvailableSpace}
 use Rattle.steps.specs.Noes.{paper}
 use Rattle.steps.specs.Question.{root_input}
 use Rattle.steps.specs.Results.{Reply, layout_result, relayout_result}
-use Rattle.steps.specs.declared.Answer.{Answer}
-use Rattle.steps.specs.declared.Answer.TheVariants.{Done}
 use Rattle.steps.specs.declared.Question.{Question}
 use Rattle.sheet.specs.Sheet.{Sheet, sheet, number_edit, word_edit}
 use Rattle.day.specs.declared.Ask.{Ask}
@@ -27,7 +26,7 @@ pub record Day : Type 0 where
 
 -- what an event answers, and the day after it
 pub record Outcome : Type 0 where
-  pub answer : Answer
+  pub answer : Result ℕ Refusal
   pub after : Day
 
 -- lent memory as a day, and what a call leaves there
@@ -38,7 +37,7 @@ abbrev pub left : Turn → List ℕ → List Float → List Float → List ℕ �
 left t ws xs rs ms cw cx l = record { answer = t.answer; after = day t.state ws xs rs ms cw cx l }
 
 -- the question with other numbers and the same flags
-unfoldable pub with_numbers : Question → OptionSize → Float → AvailableSpace → Question
+unfoldable pub with_numbers : Question → Size (Option Float) → Float → AvailableSpace → Question
 with_numbers q k p a =
     record {
       known = k;
@@ -58,14 +57,15 @@ asked (Available a) q = with_numbers q q.known q.parent a
 
 -- an edit answers 0
 abbrev pub done_turn : Question → ℕ → Turn
-done_turn q c = record { answer = Done 0; state = record { question = q; count = c } }
+done_turn q c = record { answer = Ok 0; state = record { question = q; count = c } }
 
 unfoldable pub edit_event : Sheet → Question → Day → Outcome
-edit_event s q d = record { answer = Done 0; after = record { page = s; question = q; rows = d.rows; marks = d.marks; pairs = d.pairs; triples = d.triples } }
+edit_event s q d = record { answer = Ok 0; after = record { page = s; question = q; rows = d.rows; marks = d.marks; pairs = d.pairs; triples = d.triples } }
 
 -- an accepted call empties the list, a refused one leaves it
-unfoldable pub count_after : Answer → ℕ → ℕ
-count_after a c = cond (eqb (paper a).0 0) 0 c
+unfoldable pub count_after : Result ℕ Refusal → ℕ → ℕ
+count_after (Ok n) c = 0
+count_after (Err a) c = c
 
 -- a layout or a relayout: its answer, and what it leaves in lent memory
 unfoldable pub call_event : Reply → Day → Outcome
@@ -118,6 +118,6 @@ day_after [] d = d
 day_after (e ∷ es) d = day_after es (event_result e d).after
 
 -- the answer of each event
-unfoldable pub answers_of : List Event → Day → List Answer
+unfoldable pub answers_of : List Event → Day → List (Result ℕ Refusal)
 answers_of [] d = []
 answers_of (e ∷ es) d = (event_result e d).answer ∷ answers_of es (event_result e d).after

@@ -4,17 +4,17 @@
 ghost use Rattle.std.specs.Prelude.{◌≡◌, List, ℕ};
 ghost use Rattle.day.specs.Day.{with_numbers, asked, count_after, done_turn, day, left, layout_event, relayout_event, event_result, EventReplied};
 
+use geometry::Size;
 use length::AvailableSpace;
 use lent::smaller;
 use sheet::{NodeNumber, NodeWord, edit_number, edit_word};
-use steps::{Answer, Question, number_of};
-use util::{OptionF32, OptionSize};
+use steps::{Question, Refusal};
 
 // A number of the question.
 #[derive(Clone, Copy)]
 pub enum Ask {
-    Width(OptionF32),
-    Height(OptionF32),
+    Width(Option<f32>),
+    Height(Option<f32>),
     Parent(f32),
     Available(AvailableSpace),
 }
@@ -38,12 +38,12 @@ pub struct State {
 // What an event answers, and the state after it.
 #[derive(Clone, Copy)]
 pub struct Turn {
-    pub answer: Answer,
+    pub answer: Result<u32, Refusal>,
     pub state: State,
 }
 
 // The question with other numbers. The three flags are no numbers.
-fn with(q: Question, known: OptionSize, parent: f32, available: AvailableSpace) -> Question
+fn with(q: Question, known: Size<Option<f32>>, parent: f32, available: AvailableSpace) -> Question
     ensures { result ≡ with_numbers q known parent available }
 {
     Question {
@@ -65,11 +65,11 @@ fn ask_anew(a: Ask, q: Question) -> Question
     match a {
         Ask::Width(width) => {
             let height = known.height;
-            with(q, OptionSize { width, height }, q.parent, available)
+            with(q, Size { width, height }, q.parent, available)
         }
         Ask::Height(height) => {
             let width = known.width;
-            with(q, OptionSize { width, height }, q.parent, available)
+            with(q, Size { width, height }, q.parent, available)
         }
         Ask::Parent(parent) => with(q, known, parent, available),
         Ask::Available(available) => with(q, known, q.parent, available),
@@ -77,13 +77,14 @@ fn ask_anew(a: Ask, q: Question) -> Question
 }
 
 // An accepted call empties the list, a refused one leaves it.
-fn count_after(answer: Answer, count: usize) -> usize
+#[tactic(auto, unfolding(crate::specs::Day::count_after))]
+fn count_after(answer: Result<u32, Refusal>, count: usize) -> usize
     ensures { result ≡ count_after answer count }
 {
-    if number_of(answer) == 0 {
-        return 0;
+    match answer {
+        Ok(_) => 0,
+        Err(_) => count,
     }
-    count
 }
 
 // An edit answers 0.
@@ -92,7 +93,7 @@ fn done(question: Question, count: usize) -> Turn
 {
     let state = State { question, count };
     Turn {
-        answer: Answer::Done(0),
+        answer: Ok(0),
         state,
     }
 }

@@ -1,9 +1,8 @@
 -- A replay of a day: after each accepted relayout the rows, marks and candidates are those of a fresh layout of the page as the trace has made it by then.
-use Rattle.std.specs.Prelude.{◌≡◌, List, [], ◌∷◌, ℕ, length, Float}
+use Rattle.std.specs.Prelude.{◌≡◌, List, [], ◌∷◌, ℕ, length, Float, Ok}
 use Rattle.std.proofs.Common.{sym, ◌∙◌, ap}
 use Rattle.steps.specs.Question.{root_input}
 use Rattle.steps.specs.Results.{Reply, layout_result}
-use Rattle.steps.specs.declared.Answer.TheVariants.{Done}
 use Rattle.laws.specs.Answers.{relayout_accepted}
 use Rattle.claims.specs.Claims.{relayout_is_layout}
 use Rattle.claims.specs.Unread.{rows_unread}
@@ -30,11 +29,11 @@ day_kept [] d k = k
 day_kept (e ∷ es) d k = day_kept es (event_result e d).after (event_kept e d k)
 
 -- From zero rows and an empty list, after any events, refused ones included: a relayout that is accepted has the whole result of a layout of the page as the events have made it, whatever rows that layout is lent.
-pub replay_is_fresh : (d : Day) → Starts d → (es : List Event) (k : ℕ) → (relayout_of (day_after es d)).answer ≡ Done k → (rs : List Float) (ms : List ℕ) → length rs ≡ length (day_after es d).rows → length ms ≡ length (day_after es d).marks
+pub replay_is_fresh : (d : Day) → Starts d → (es : List Event) (k : ℕ) → (relayout_of (day_after es d)).answer ≡ Ok k → (rs : List Float) (ms : List ℕ) → length rs ≡ length (day_after es d).rows → length ms ≡ length (day_after es d).marks
     → relayout_of (day_after es d) ≡ layout_result (day_after es d).page.words (day_after es d).page.numbers rs ms (day_after es d).pairs (day_after es d).triples (root_input (day_after es d).question)
 replay_is_fresh d s es k e rs ms lr lm = fresh_at (day_after es d) (day_kept es d (start_kept d s)) k e rs ms lr lm
   where
-    fresh_at : (d : Day) → KeptDay d → (k : ℕ) → (relayout_of d).answer ≡ Done k → (rs : List Float) (ms : List ℕ) → length rs ≡ length d.rows → length ms ≡ length d.marks
+    fresh_at : (d : Day) → KeptDay d → (k : ℕ) → (relayout_of d).answer ≡ Ok k → (rs : List Float) (ms : List ℕ) → length rs ≡ length d.rows → length ms ≡ length d.marks
         → relayout_of d ≡ layout_result d.page.words d.page.numbers rs ms d.pairs d.triples (root_input d.question)
     fresh_at d kept k e rs ms lr lm =
         let ws = d.page.words in

@@ -1,23 +1,20 @@
 -- Refused events: 1 to 7 leave the day as it was, and after 8, as before the first layout, only a layout helps.
-use Rattle.std.specs.Prelude.{◌≡◌, refl, Bool, true, false, ◌||◌, List, [], ◌∷◌, ℕ, ◌≤◌, length, get_or}
+use Rattle.steps.specs.declared.Refusal.TheVariants.{Lengths, Tree, Codes, Numbers, Room, Edits, NotLaid, TooLarge}
+use Rattle.steps.specs.declared.Refusal.{Refusal}
+use Rattle.std.specs.Prelude.{◌≡◌, refl, Bool, true, false, ◌||◌, List, [], ◌∷◌, ℕ, ◌≤◌, length, get_or, Result, Ok, Err, ⊤}
 use Rattle.std.proofs.Common.{sym, ◌∙◌, ne_eqb}
 use Rattle.std.proofs.Math.Bool.{true≢false}
 use native.Mathlib.Omega.{arith}
 use Rattle.style.specs.Codes.{flag_at}
-use Rattle.steps.specs.Noes.{paper, relayout_tested}
+use Rattle.steps.specs.Noes.{paper, refusal_paper, relayout_tested}
 use Rattle.steps.specs.Question.{root_input}
 use Rattle.steps.specs.Results.{Reply}
-use Rattle.steps.specs.declared.Answer.{Answer}
-use Rattle.steps.specs.declared.Answer.TheVariants as answer
-use Rattle.steps.specs.declared.Tested.{Tested}
-use Rattle.steps.specs.declared.Tested.TheVariants.{Pass, Refuse}
 use Rattle.laws.specs.Answers.{relayout_accepted}
 use Rattle.tables.proofs.Exactly.{relayout-exactly}
 use Rattle.layout.specs.Public.{Replied}
 use Rattle.outcomes.specs.Left.{LeftBy}
 use Rattle.outcomes.proofs.LayoutLaws.{layout-leaves}
 use Rattle.outcomes.proofs.Relayout.{relayout-leaves}
-use Rattle.records.proofs.Refusals.{No}
 use Rattle.day.specs.Day.{Day, edits_of, layout_of, relayout_of, edit_event, call_event, count_after, event_result}
 use Rattle.day.specs.declared.Event.{Event}
 use Rattle.day.specs.declared.Event.TheVariants as event
@@ -36,9 +33,10 @@ layout_does d = layout-leaves _ _ _ _ _ _ _ (layout_of d).answer (layout_of d).r
 relayout_does : (d : Day) → Leaves d (relayout_of d)
 relayout_does d = relayout-leaves _ _ _ _ _ _ _ _ (relayout_of d).answer (relayout_of d).rows (relayout_of d).marks (relayout_of d).words (relayout_of d).numbers (itself (relayout_of d))
 
-count_stands : (a : Answer) (c : ℕ) → 1 ≤ (paper a).0 → count_after a c ≡ c
-unfolding count_after
-count_stands a c h = rw (ne_eqb (paper a).0 0 (λ e. omega arith))
+count_stands : (a : Result ℕ Refusal) (c : ℕ) → 1 ≤ (paper a).0 → count_after a c ≡ c
+unfolding count_after paper
+count_stands (Ok n) c h = absurd (omega arith)
+count_stands (Err a) c h = refl
 
 call_lent : (d : Day) (r : Reply) → Leaves d r → 1 ≤ (paper r.answer).0 → (paper r.answer).0 ≤ 7 → (call_event r d).after ≡ d
 unfolding call_event
@@ -60,32 +58,31 @@ abbrev pub Unlaid : Day → Type 0
 Unlaid d = flag_at (get_or d.marks 1 0) 0 ≡ false
 
 -- 7, or an earlier number
-abbrev pub SevenOrEarlier : Answer → Type 0
+abbrev pub SevenOrEarlier : Result ℕ Refusal → Type 0
 SevenOrEarlier a = (1 ≤ (paper a).0) × ((paper a).0 ≤ 7)
 
 module _ (d : Day) (h : Unlaid d) where
-  tests : Tested
+  tests : Result ⊤ Refusal
   tests = relayout_tested d.page.words d.page.numbers d.rows d.marks d.pairs d.triples (edits_of d.page) (root_input d.question)
 
-  no_pass : tests ≡ Pass → ⊥
+  no_pass : tests ≡ Ok tt → ⊥
   unfolding tests
   no_pass e = true≢false (sym (root_laid _ _ _ _ _ _ _ _ e) ∙ h)
 
-  seven : (a : Answer) → tests ≡ Refuse a → No a → SevenOrEarlier a
-  unfolding tests paper
-  seven (answer.Done k) e n = absurd (true≢false n)
-  seven answer.Lengths e n = (omega arith, omega arith)
-  seven (answer.Tree i) e n = (omega arith, omega arith)
-  seven (answer.Codes i) e n = (omega arith, omega arith)
-  seven (answer.Numbers k) e n = (omega arith, omega arith)
-  seven answer.Room e n = (omega arith, omega arith)
-  seven (answer.Edits k) e n = (omega arith, omega arith)
-  seven answer.NotLaid e n = (omega arith, omega arith)
-  seven (answer.TooLarge i) e n = absurd ((relayout-exactly _ _ _ _ _ _ _ _ (Refuse (answer.TooLarge i))).only e)
+  seven : (a : Refusal) → tests ≡ Err a → SevenOrEarlier (Err a)
+  unfolding tests paper refusal_paper
+  seven Lengths e = (omega arith, omega arith)
+  seven (Tree i) e = (omega arith, omega arith)
+  seven (Codes i) e = (omega arith, omega arith)
+  seven (Numbers k) e = (omega arith, omega arith)
+  seven Room e = (omega arith, omega arith)
+  seven (Edits k) e = (omega arith, omega arith)
+  seven NotLaid e = (omega arith, omega arith)
+  seven (TooLarge i) e = absurd ((relayout-exactly _ _ _ _ _ _ _ _ (Err (TooLarge i))).only e)
 
   by_kind : Kind tests d.rows d.marks d.pairs d.triples (relayout_of d) → SevenOrEarlier (relayout_of d).answer
   unfolding tests
-  by_kind (is_as_lent a e n r) = rw r (seven a e n)
+  by_kind (is_as_lent a e r) = rw r (seven a e)
   by_kind (zeroed i e z m) = absurd (no_pass e)
   by_kind (done k e) = absurd (no_pass (relayout_accepted _ _ _ _ _ _ _ _ k e).passed)
 
@@ -122,7 +119,7 @@ or_right true b e = absurd (true≢false e)
 or_right false b e = e
 
 pub eight_unlaid : (e : Event) (d : Day) → (paper (event_result e d).answer).0 ≡ 8 → Unlaid (event_result e d).after
-unfolding event_result edit_event call_event paper
+unfolding event_result edit_event call_event paper refusal_paper
 eight_unlaid (event.Number x) d n = absurd (omega arith)
 eight_unlaid (event.Word x) d n = absurd (omega arith)
 eight_unlaid (event.Ask a) d n = absurd (omega arith)

@@ -1,24 +1,20 @@
 -- How a day stands: what a relayout may rely on, kept by every event.
-use Rattle.std.specs.Prelude.{◌≡◌, refl, Bool, true, false, cond, List, [], ◌∷◌, ◌++◌, ℕ, ◌+◌, ◌<◌, ◌≤◌, length, take, get_or, set, eqb, ltb, Float}
-use Rattle.std.proofs.Common.{sym, ◌∙◌, ap, subst, true≢false, arith, length-set, length-append, take_all, ltb-true, ltb-false}
+use Rattle.steps.specs.declared.Refusal.{Refusal}
+use Rattle.std.specs.Prelude.{◌≡◌, refl, Bool, true, false, cond, List, [], ◌∷◌, ◌++◌, ℕ, ◌+◌, ◌<◌, ◌≤◌, length, take, get_or, set, eqb, ltb, Float, Result, Ok, ⊤}
+use Rattle.std.proofs.Common.{sym, ◌∙◌, ap, subst, true≢false, arith, length-set, length-append, take_all, ltb-true, ltb-false, Err}
 use Rattle.style.specs.Codes.{flag_at}
 use Rattle.style.specs.Style.{word_at, number_at, plane_of}
 use Rattle.steps.specs.Page.{nodes_in, named}
-use Rattle.steps.specs.Noes.{paper, layout_tested, relayout_tested}
+use Rattle.steps.specs.Noes.{paper, refusal_paper, layout_tested, relayout_tested}
 use Rattle.steps.specs.Question.{root_input}
 use Rattle.steps.specs.Results.{Reply, layout_result, relayout_result}
-use Rattle.steps.specs.declared.Answer.{Answer}
-use Rattle.steps.specs.declared.Answer.TheVariants.{Done, TooLarge}
 use Rattle.steps.specs.declared.LayoutInput.{LayoutInput}
-use Rattle.steps.specs.declared.Tested.{Tested}
-use Rattle.steps.specs.declared.Tested.TheVariants.{Pass, Refuse}
 use Rattle.laws.specs.Tables.{SameAt, SameShape, Named, Calls, laid_out, laid_again}
 use Rattle.laws.specs.Answers.{layout_accepted, relayout_accepted, relayout_layout}
 use Rattle.sheet.specs.Sheet.{Sheet, sheet, noted, edit_of, has_number, has_word, number_edit, word_edit}
 use Rattle.day.specs.Day.{Day, Outcome, edits_of, layout_of, relayout_of, layout_event, relayout_event, edit_event, call_event, count_after, asked, event_result, day_after}
 use Rattle.day.specs.declared.Event.{Event}
 use Rattle.day.specs.declared.Event.TheVariants as event
-use Rattle.records.proofs.Refusals.{No}
 use Rattle.day_claims.specs.Edited.{Edited, Step, nothing, edit, number_step, word-step, edits-more, edits-full, not_named}
 use Rattle.day_claims.specs.Called.{Kind, is_as_lent, zeroed, done, layout-kind, relayout-kind, planes-pass, few-edits, root_laid, zero_marks}
 
@@ -93,12 +89,12 @@ step_kept s _ rs ms (edit i s' e) k =
     }
 
 -- ---- a layout or a relayout
-no_count : (a : Answer) (c : ℕ) → No a → count_after a c ≡ c
+no_count : (a : Refusal) (c : ℕ) → count_after (Err a) c ≡ c
 unfolding count_after
-no_count a c h = rw h
+no_count a c = refl
 
-zero_count : (k c : ℕ) → count_after (Done k) c ≡ 0
-unfolding count_after paper
+zero_count : (k c : ℕ) → count_after (Ok k) c ≡ 0
+unfolding count_after
 zero_count k c = refl
 
 -- rows that an accepted call left of this very page, with an empty list
@@ -118,18 +114,18 @@ fresh_start s c q rs ms e p calls =
 abbrev pub KeptDay : Day → Type 0
 KeptDay d = Kept d.page d.rows d.marks
 
-module _ (d : Day) (t : Tested) (r : Reply) (kept : KeptDay d) where
+module _ (d : Day) (t : Result ⊤ Refusal) (r : Reply) (kept : KeptDay d) where
   -- a refused call leaves the day as it was
-  lent-kept : (a : Answer) → No a → r ≡ record { answer = a; rows = d.rows; marks = d.marks; words = d.pairs; numbers = d.triples } → KeptDay (call_event r d).after
+  lent-kept : (a : Refusal) → r ≡ record { answer = Err a; rows = d.rows; marks = d.marks; words = d.pairs; numbers = d.triples } → KeptDay (call_event r d).after
   unfolding call_event
-  lent-kept a h e = rw (e, no_count a d.page.count h) kept
+  lent-kept a e = rw (e, no_count a d.page.count) kept
 
-  call_kept : Kind t d.rows d.marks d.pairs d.triples r → ((k : ℕ) → r.answer ≡ Done k → Calls d.page.words d.page.numbers (root_input d.question) r.rows r.marks) → ((k : ℕ) → r.answer ≡ Done k → plane_of d.page.numbers ≡ nodes_in d.page.words) → KeptDay (call_event r d).after
+  call_kept : Kind t d.rows d.marks d.pairs d.triples r → ((k : ℕ) → r.answer ≡ Ok k → Calls d.page.words d.page.numbers (root_input d.question) r.rows r.marks) → ((k : ℕ) → r.answer ≡ Ok k → plane_of d.page.numbers ≡ nodes_in d.page.words) → KeptDay (call_event r d).after
   unfolding call_event
-  call_kept (is_as_lent a x h e) calls plane = lent-kept a h e
+  call_kept (is_as_lent a x e) calls plane = lent-kept a e
   call_kept (zeroed i p e z) calls plane = record { room = kept.room; standing = unlaid _ r.rows r.marks (zero_marks (length d.marks) r.marks z) }
   call_kept (done k e) calls plane =
-      record { room = kept.room; standing = fresh_start d.page (count_after r.answer d.page.count) (root_input d.question) r.rows r.marks (ap (λ (a : Answer). count_after a d.page.count) e ∙ zero_count k d.page.count) (plane k e) (calls k e) }
+      record { room = kept.room; standing = fresh_start d.page (count_after r.answer d.page.count) (root_input d.question) r.rows r.marks (ap (λ (a : Result ℕ Refusal). count_after a d.page.count) e ∙ zero_count k d.page.count) (plane k e) (calls k e) }
 
 pub layout_kept : (d : Day) → KeptDay d → KeptDay (layout_event d).after
 layout_kept d k =
@@ -141,7 +137,7 @@ layout_kept d k =
     (λ n e. planes-pass ws xs d.rows d.marks d.pairs d.triples q (layout_accepted ws xs d.rows d.marks d.pairs d.triples q n e).passed)
 
 -- a relayout that passes has a list that names every node changed since the last accepted call
-pub passing : (d : Day) → Standing d.page d.rows d.marks → relayout_tested d.page.words d.page.numbers d.rows d.marks d.pairs d.triples (edits_of d.page) (root_input d.question) ≡ Pass → Since d.page d.rows d.marks
+pub passing : (d : Day) → Standing d.page d.rows d.marks → relayout_tested d.page.words d.page.numbers d.rows d.marks d.pairs d.triples (edits_of d.page) (root_input d.question) ≡ Ok tt → Since d.page d.rows d.marks
 passing d st e = go d.page d.rows d.marks st (root_laid _ _ _ _ _ _ _ _ e) (few-edits _ _ _ _ _ _ _ _ e)
   where
     go : (s : Sheet) (rs : List Float) (ms : List ℕ) → Standing s rs ms → flag_at (get_or ms 1 0) 0 ≡ true → length (edits_of s) ≤ 64 → Since s rs ms
@@ -155,7 +151,7 @@ relayout_kept d k =
     let xs = d.page.numbers in
     let es = edits_of d.page in
     let q = root_input d.question in
-    let passed : (n : ℕ) → (relayout_of d).answer ≡ Done n → relayout_tested ws xs d.rows d.marks d.pairs d.triples es q ≡ Pass = λ n e. (relayout_accepted ws xs d.rows d.marks d.pairs d.triples es q n e).passed in
+    let passed : (n : ℕ) → (relayout_of d).answer ≡ Ok n → relayout_tested ws xs d.rows d.marks d.pairs d.triples es q ≡ Ok tt = λ n e. (relayout_accepted ws xs d.rows d.marks d.pairs d.triples es q n e).passed in
     call_kept d (relayout_tested ws xs d.rows d.marks d.pairs d.triples es q) (relayout_of d) k (relayout-kind ws xs d.rows d.marks d.pairs d.triples es q)
     (λ n e. let w = passing d k.standing (passed n e) in laid_again w.words w.numbers w.asked d.rows d.marks ws xs d.pairs d.triples es q n w.calls w.shape w.listed e)
     (λ n e. planes-pass ws xs d.rows d.marks d.pairs d.triples q (relayout_layout ws xs d.rows d.marks d.pairs d.triples es q (passed n e)))

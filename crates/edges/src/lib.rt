@@ -5,7 +5,7 @@ ghost use Rattle.std.specs.Prelude.{◌≡◌, ◌<◌};
 ghost use Rattle.edges.specs.Edges.{row_number, edge_by};
 ghost use Rattle.edges.specs.Tests.{bad_words, rows_tested};
 
-use steps::{Answer, Tested};
+use steps::Refusal;
 use style::word;
 
 // 1: no node, over 1,024, or not 4 words for each.
@@ -23,21 +23,18 @@ fn bad_words(words: &[u32]) -> bool
 }
 
 // 1, 2, 3 by the words alone, and 7.
-pub fn rows_tested(words: &[u32], rows: &[f32], marks: &[u32]) -> Tested
+#[tactic(auto, unfolding(crate::specs::Tests::rows_tested, crate::specs::Tests::laid_tested, steps::specs::Noes::and_then))]
+pub fn rows_tested(words: &[u32], rows: &[f32], marks: &[u32]) -> Result<(), Refusal>
     ensures { result ≡ rows_tested words.now rows.now marks.now }
 {
     if bad_words(words) {
-        return Tested::Refuse(Answer::Lengths);
+        return Err(Refusal::Lengths);
     }
     if tables::bad_rows(words, rows, marks) {
-        return Tested::Refuse(Answer::Lengths);
+        return Err(Refusal::Lengths);
     }
-    if let Tested::Refuse(a) = tables::tree_tested(words) {
-        return Tested::Refuse(a);
-    }
-    if let Tested::Refuse(a) = tables::words_tested(words) {
-        return Tested::Refuse(a);
-    }
+    tables::tree_tested(words)?;
+    tables::words_tested(words)?;
     tables::root_tested(marks)
 }
 
@@ -61,9 +58,7 @@ pub fn near_edge(words: &[u32], rows: &[f32], f: usize, i: usize) -> f32
     ensures { result ≡ edge_by words.now rows.now f i }
 {
     let mut edge = row_number(rows, i, f);
-    let mut j = i;
-    while 0 < j {
-        j -= 1;
+    for j in (0..i).rev() {
         if i - j < word(words, j, style::SIZE) as usize {
             edge = edge + row_number(rows, j, f);
         }

@@ -1,10 +1,9 @@
 -- Step I, and what step J asks of a child, on a page of the profile. Assumes nothing.
-use Rattle.std.specs.Prelude.{◌≡◌, refl, Bool, false, ℕ, ◌+◌, ◌≤◌, ℤ, Float}
+use Rattle.length.specs.declared.Length.{Length}
+use Rattle.geometry.specs.declared.Size.{Size}
+use Rattle.geometry.specs.declared.Rect.{Rect}
+use Rattle.std.specs.Prelude.{◌≡◌, refl, Bool, false, ℕ, ◌+◌, ◌≤◌, ℤ, Float, Option, Some}
 use Rattle.std.proofs.Common.{arith, lit≤}
-use Rattle.util.specs.declared.OptionF32.{OptionF32}
-use Rattle.util.specs.declared.OptionF32.TheVariants.{Some}
-use Rattle.util.specs.declared.OptionSize.{OptionSize}
-use Rattle.length.specs.declared.LengthRect.{LengthRect}
 use Rattle.style.specs.declared.Position.{Position}
 use Rattle.style.specs.declared.Position.TheVariants.{Static, Relative, Absolute}
 use Rattle.style.specs.declared.Style.{Style}
@@ -27,7 +26,7 @@ use Rattle.exact.proofs.Boxes.{length_is, sides_is, box_is, insets_is}
 use Rattle.exact.specs.Widths.{max_is}
 use Rattle.exact.specs.Frames.{InputIs, FrameIs, plain_is, adjoins_is, hollow_is, own_end_is, basis_is, rtl_is, inner_is, PointIs, ItemIs, offset_x_is, auto_is, asked_height_is}
 
-step_i_is : (s : Style) {w : ℕ} {q : LayoutInput} {z : InputZ} {b : Sizing} {o : OptionSize} {a : SizeMay} {x : Float} {k : ℤ} → InProfile s → InputIs w q z → BoxIs b (box_of_z (style_z s)) → SizeIs o a w 5120 → Near x k w
+step_i_is : (s : Style) {w : ℕ} {q : LayoutInput} {z : InputZ} {b : Sizing} {o : Size (Option Float)} {a : SizeMay} {x : Float} {k : ℤ} → InProfile s → InputIs w q z → BoxIs b (box_of_z (style_z s)) → SizeIs o a w 5120 → Near x k w
     → FrameIs w (step_i s q b o x) (step_iz (style_z s) z (box_of_z (style_z s)) a k)
 unfolding step_i step_iz
 step_i_is s p q b o x =
@@ -53,7 +52,7 @@ frame_is s {w} {q} p i x u =
     let o = known_is s p b i.known u (lit≤ tt) in
     step_i_is s p i b o (unwrap_is o.width x)
 
-relative_is : (l : LengthRect) (t : Bool) (b h : OptionF32) → WholeRect l → PointIs 1024 1024 (relative_offset l t b h) (relative_offset_z (rect_z l) t)
+relative_is : (l : Rect Length) (t : Bool) (b h : Option Float) → WholeRect l → PointIs 1024 1024 (relative_offset l t b h) (relative_offset_z (rect_z l) t)
 unfolding relative_offset relative_offset_z
 relative_is l t b h p =
     record {
@@ -61,7 +60,7 @@ relative_is l t b h p =
       y = or_zero_is (or_else_is (length_is l.top h p.top) (neg_opt_is (length_is l.bottom h p.bottom)));
     }
 
-offset_by_is : (o : Position) (l : LengthRect) (t : Bool) (b h : OptionF32) → WholeRect l → PointIs 1024 1024 (offset_by o l t b h) (offset_by_z o (rect_z l) t)
+offset_by_is : (o : Position) (l : Rect Length) (t : Bool) (b h : Option Float) → WholeRect l → PointIs 1024 1024 (offset_by o l t b h) (offset_by_z o (rect_z l) t)
 unfolding offset_by offset_by_z
 offset_by_is Static l t b h p = record { x = zero_is; y = zero_is }
 offset_by_is Relative l t b h p = relative_is l t b h p

@@ -1,7 +1,6 @@
 -- The theorem on trees: a layout of a page of the profile is that over whole numbers, row by row. Assumes nothing.
-use Rattle.std.specs.Prelude.{◌≡◌, refl, true, ℕ, ◌+◌, ◌≤◌}
+use Rattle.std.specs.Prelude.{◌≡◌, refl, true, ℕ, ◌+◌, ◌≤◌, Option, Float}
 use Rattle.std.proofs.Common.{arith, lit≤}
-use Rattle.util.specs.declared.OptionF32.{OptionF32}
 use Rattle.length.specs.Available.{definite}
 use Rattle.length.specs.declared.AvailableSpace.{AvailableSpace}
 use Rattle.length.specs.declared.AvailableSpace.TheVariants.{Definite, MinContent, MaxContent}
@@ -32,7 +31,7 @@ use Rattle.exact.specs.Layout.{LaidAt, TreeLays}
 use Rattle.exact.proofs.LayoutLaws.{node_lays, lay_f_lem}
 use Rattle.exact.specs.Fresh.{PageIs, PassedIs, asked_available, all_good, root_clear, blank_style, cells_page, count_nodes, depth_nodes}
 
-pass_by_is : (l : Cell) (ks : Forest Cell) (parent : OptionF32) (d : ℕ) {o : OptionF32} {a : MayZ} {r : Widest} {y : WidestZ} → InProfile l.site.style → NodeIs (cleared l) (cleared_z (cell_z l)) → AllF GoodCell ks → d ≤ 31 → MayIs 5120 o a → WidestIs (spread d) r y
+pass_by_is : (l : Cell) (ks : Forest Cell) (parent : Option Float) (d : ℕ) {o : Option Float} {a : MayZ} {r : Widest} {y : WidestZ} → InProfile l.site.style → NodeIs (cleared l) (cleared_z (cell_z l)) → AllF GoodCell ks → d ≤ 31 → MayIs 5120 o a → WidestIs (spread d) r y
     → PassedIs (pass_by l ks o parent r) (pass_by_z (cell_z l) (map_f cell_z ks) a y)
 unfolding pass_by pass_by_z PageIs
 pass_by_is l ks parent d p n h u (some_is w) r = record { found = zero_is; nodes = (n, clear_f ks h) }

@@ -1,8 +1,7 @@
 -- Steps K to N on a page of the profile, and a leaf's answer. Assumes nothing.
 -- Free space is 0 where the content decides the height; else the height is at most 5120, and free space at most that and the content.
-use Rattle.std.specs.Prelude.{◌≡◌, refl, ℕ, suc, ◌+◌, ◌^◌, ◌≤◌, ℤ, Float}
+use Rattle.std.specs.Prelude.{◌≡◌, refl, ℕ, suc, ◌+◌, ◌^◌, ◌≤◌, ℤ, Float, Option}
 use Rattle.std.proofs.Common.{arith, lit≤}
-use Rattle.util.specs.declared.OptionF32.{OptionF32}
 use Rattle.length.specs.Length.{resolved_or_zero}
 use Rattle.style.specs.declared.Style.{Style}
 use Rattle.steps.specs.Height.{step_m}
@@ -30,15 +29,15 @@ step_m_is : (s : Style) (f : Frame) (g : FrameZ) (h c : Float) (a b : ℤ) {n : 
 unfolding step_m step_mz style_z
 step_m_is s f g h c a b p q = align_is s.align s.safe p.aligned q
 
-own_top_lem : (s : Style) (b : OptionF32) → InProfile s → Near (resolved_or_zero s.margin.top b) (or_zero_z (style_z s).margin.top) 1024
+own_top_lem : (s : Style) (b : Option Float) → InProfile s → Near (resolved_or_zero s.margin.top b) (or_zero_z (style_z s).margin.top) 1024
 unfolding style_z
 own_top_lem s b p = length_or_zero s.margin.top b p.margin.top
 
-own_bottom : (s : Style) (b : OptionF32) → InProfile s → Near (resolved_or_zero s.margin.bottom b) (or_zero_z (style_z s).margin.bottom) 1024
+own_bottom : (s : Style) (b : Option Float) → InProfile s → Near (resolved_or_zero s.margin.bottom b) (or_zero_z (style_z s).margin.bottom) 1024
 unfolding style_z
 own_bottom s b p = length_or_zero s.margin.bottom b p.margin.bottom
 
-output_is : (s : Style) (q : LayoutInput) {w n l h m : ℕ} {f : Frame} {g : FrameZ} {c : Cursor} {z : CursorZ} {x : Float} {k : ℤ} {d : OptionF32} {b : MayZ} → InProfile s → FrameIs w f g → CursorIs n l c z → Near x k h → MayIs m d b → l + m ≤ 2 ^ 24
+output_is : (s : Style) (q : LayoutInput) {w n l h m : ℕ} {f : Frame} {g : FrameZ} {c : Cursor} {z : CursorZ} {x : Float} {k : ℤ} {d : Option Float} {b : MayZ} → InProfile s → FrameIs w f g → CursorIs n l c z → Near x k h → MayIs m d b → l + m ≤ 2 ^ 24
     → OutIs w h (l + m) (output_of s q f c x d) (output_of_z (style_z s) g z k b)
 unfolding output_of output_of_z
 output_is s q p f c x d u =

@@ -113,7 +113,7 @@ place_by st y r s k j n D w v far f g c z a b e p t i u q m deep o x wide_enough
           more_listed _ _ _ _ 7340032 d e n row (cands_wide (placed_listed _ _ c.shown.0 z.shown o.laid (rows_bits _ _ 16777215 o.rows) o.below x a' (omega arith) (omega arith) n) wide_enough (omega arith)) (l.listed m d e a' b');
     })
   where
-    point-wide : {a n m : ℕ} {p : Point} {q : PointZ} → PointIs a n p q → n ≤ m → PointIs a m p q
+    point-wide : {a n m : ℕ} {p : Point Float} {q : PointZ} → PointIs a n p q → n ≤ m → PointIs a m p q
     point-wide p u = record { x = p.x; y = wide p.y u }
 
 -- the width asked, in both engines; the question; and that the child keeps the width

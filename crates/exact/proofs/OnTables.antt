@@ -1,5 +1,6 @@
 -- The theorem of lent tables: of a layout, of a relayout from rows that calls left, and of the size question.
-use Rattle.std.specs.Prelude.{◌≡◌, List, [], ℕ, Float}
+use Rattle.steps.specs.declared.Refusal.TheVariants.{Lengths}
+use Rattle.std.specs.Prelude.{◌≡◌, List, [], ℕ, Float, None, Ok}
 use Rattle.steps.specs.Page.{nodes_in, page_of}
 use Rattle.steps.specs.SizeQuestion.{size_of}
 use Rattle.steps.specs.Layout.{fresh}
@@ -7,9 +8,6 @@ use Rattle.steps.specs.Noes.{bad_tables, refuse_if, layout_tested, relayout_test
 use Rattle.steps.specs.Results.{layout_result, relayout_result, size_result}
 use Rattle.steps.specs.declared.LayoutInput.{LayoutInput}
 use Rattle.steps.specs.declared.RequestedAxis.{RequestedAxis}
-use Rattle.steps.specs.declared.Answer.TheVariants.{Lengths}
-use Rattle.steps.specs.declared.Tested.TheVariants.{Pass}
-use Rattle.steps.specs.declared.Spot.TheVariants as spot
 use Rattle.tables.proofs.Passing.{then_pass_1, then_pass_2, if_pass}
 use Rattle.laws.specs.Tables.{SameShape, Named, Checks, Calls}
 use Rattle.laws.proofs.Demand3.{relayout_is_layout}
@@ -22,7 +20,7 @@ use Rattle.exact.proofs.Sizes.{size_is_exact}
 use Rattle.exact.specs.Lists.{rows_out_lem, no_eight}
 use Rattle.exact.specs.OnTables.{rows_z, told, ExactReply, passed_reply, exact_reply, layout_told, ExactSize, by_test_lem}
 
-pub layout_is_exact : (ws : List ℕ) (xs rs : List Float) (ms cw : List ℕ) (cx : List Float) (q : LayoutInput) → layout_tested ws xs rs ms cw cx q ≡ Pass → profile_spot ws xs q ≡ spot.Nowhere
+pub layout_is_exact : (ws : List ℕ) (xs rs : List Float) (ms cw : List ℕ) (cx : List Float) (q : LayoutInput) → layout_tested ws xs rs ms cw cx q ≡ Ok tt → profile_spot ws xs q ≡ None
     → ExactReply (layout_result ws xs rs ms cw cx q) (rows_z ws xs q) cw cx
 unfolding layout_result
 layout_is_exact ws xs rs ms cw cx q e s =
@@ -34,12 +32,12 @@ layout_is_exact ws xs rs ms cw cx q e s =
 -- ---- a relayout from rows that calls left, whatever pages these were: by demand 3 it is a layout. `checks` as in crate laws; crate exact_claims puts it in.
 module _ (checks : Checks) where
   pub relayout_is_exact : (ws : List ℕ) (xs : List Float) (q : LayoutInput) (rs : List Float) (ms : List ℕ) (ws' : List ℕ) (xs' : List Float) (cw : List ℕ) (cx : List Float) (es : List ℕ) (p : LayoutInput)
-      → Calls ws xs q rs ms → SameShape ws ws' → Named es ws xs ws' xs' → relayout_tested ws' xs' rs ms cw cx es p ≡ Pass → profile_spot ws' xs' p ≡ spot.Nowhere
+      → Calls ws xs q rs ms → SameShape ws ws' → Named es ws xs ws' xs' → relayout_tested ws' xs' rs ms cw cx es p ≡ Ok tt → profile_spot ws' xs' p ≡ None
       → ExactReply (relayout_result ws' xs' rs ms cw cx es p) (rows_z ws' xs' p) cw cx
   relayout_is_exact ws xs q rs ms ws' xs' cw cx es p calls shape named e s =
       rw (relayout_is_layout checks ws xs q rs ms ws' xs' cw cx es p calls shape named e) (layout_is_exact ws' xs' rs ms cw cx p (relayout_layout ws' xs' rs ms cw cx es p e) s)
 
-pub size_question_is_exact : (ws : List ℕ) (xs : List Float) (q : LayoutInput) (a : RequestedAxis) → size_tested ws xs q ≡ Pass → profile_spot ws xs q ≡ spot.Nowhere → ExactSize ws xs q a (size_of_z (page_z (page_of ws xs [])) (input_z q) a)
+pub size_question_is_exact : (ws : List ℕ) (xs : List Float) (q : LayoutInput) (a : RequestedAxis) → size_tested ws xs q ≡ Ok tt → profile_spot ws xs q ≡ None → ExactSize ws xs q a (size_of_z (page_z (page_of ws xs [])) (input_z q) a)
 unfolding size_result size_tested
 size_question_is_exact ws xs q a e s =
     let b = if_pass (bad_tables ws xs) Lengths (then_pass_1 (refuse_if (bad_tables ws xs) Lengths) _ e) in

@@ -1,8 +1,6 @@
 -- The width pass of a page of the profile that has no old rows, over the tree. Assumes nothing.
-use Rattle.std.specs.Prelude.{◌≡◌, refl, Bool, true, false, ℕ, suc, ◌+◌, ◌*◌, ◌^◌, ◌≤◌, ℤ, Float}
+use Rattle.std.specs.Prelude.{◌≡◌, refl, Bool, true, false, ℕ, suc, ◌+◌, ◌*◌, ◌^◌, ◌≤◌, ℤ, Float, Option, None}
 use Rattle.std.proofs.Common.{◌∙◌, arith, lit≤}
-use Rattle.util.specs.declared.OptionF32.{OptionF32}
-use Rattle.util.specs.declared.OptionF32.TheVariants.{None}
 use Rattle.length.specs.declared.AvailableSpace.{AvailableSpace}
 use Rattle.style.specs.Flow.{is_leaf}
 use Rattle.tree.specs.Tree.{Tree, Forest, node, none, more, map_t, map_f, depth_t, depth_f}
@@ -24,7 +22,7 @@ use Rattle.exact.specs.Widths.{AvailableIs, ProbeIs, WantIs, nothing_is, outer_i
 use Rattle.exact.proofs.Widths.{leaf_width_is, outer_width_is, want_is, found_is, space_is, probe_known_is}
 use Rattle.exact.specs.Probes.{GoodCell, cell_z, ProbedIs, WidestIs, clear_t, clear_f, asked_is, probed, spread, wider_probed, KidsIs, kind_same, widen_is, all_root, asks_anew, TreeIs, style_root, none_are}
 
-block_is : (l : Cell) (ks : Forest Cell) (d : ℕ) {q : ProbeInput} {z : ProbeInputZ} {o : OptionF32} {a : MayZ} {r : Widest} {y : WidestZ} {n : ℕ} → GoodCell l → AllF GoodCell ks → ProbeIs n q z → n + 8192 * suc d ≤ 2 ^ 20 → MayIs 5120 o a → WidestIs (spread d) r y
+block_is : (l : Cell) (ks : Forest Cell) (d : ℕ) {q : ProbeInput} {z : ProbeInputZ} {o : Option Float} {a : MayZ} {r : Widest} {y : WidestZ} {n : ℕ} → GoodCell l → AllF GoodCell ks → ProbeIs n q z → n + 8192 * suc d ≤ 2 ^ 20 → MayIs 5120 o a → WidestIs (spread d) r y
     → ProbedIs (probed (suc d)) (block_probe l q ks o r) (block_probe_z (cell_z l) z (map_f cell_z ks) a y)
 unfolding block_probe block_probe_z
 block_is l ks d g h p u (some_is w) r = wider_probed (asked_is l _ _ g p w (omega arith) (lit≤ tt) (clear_f ks h)) (omega arith)

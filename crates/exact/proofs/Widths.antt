@@ -1,9 +1,7 @@
 -- Step F on a page of the profile: the width pass is that over whole numbers. Assumes nothing.
-use Rattle.std.specs.Prelude.{ℕ, ◌+◌, ◌^◌, ◌≤◌, ℤ, Float}
+use Rattle.std.specs.Prelude.{ℕ, ◌+◌, ◌^◌, ◌≤◌, ℤ, Float, Option, None}
 use Rattle.std.proofs.Common.{arith, lit≤}
 use Rattle.geometry.specs.Geometry.{across}
-use Rattle.util.specs.declared.OptionF32.{OptionF32}
-use Rattle.util.specs.declared.OptionF32.TheVariants.{None}
 use Rattle.length.specs.Available.{available_less, definite}
 use Rattle.length.specs.declared.AvailableSpace.{AvailableSpace}
 use Rattle.style.specs.Flow.{flow_of}
@@ -31,11 +29,11 @@ leaf_width_is s p (definite_is q) = leaf_clamp q (pixel_is s.measure.least p.lea
 leaf_width_is s p min_is = pixel_is s.measure.least p.least
 leaf_width_is s p max_is = pixel_is s.measure.most p.most
 
-margins_is : (s : Style) (b : OptionF32) → InProfile s → Near (side_margins s b) (side_margins_z (style_z s)) 2048
+margins_is : (s : Style) (b : Option Float) → InProfile s → Near (side_margins s b) (side_margins_z (style_z s)) 2048
 unfolding side_margins side_margins_z style_z
 margins_is s b p = plus_is (length_or_zero s.margin.left b p.margin.left) (length_or_zero s.margin.right b p.margin.right) (lit≤ tt)
 
-pub step_a_is : (s : Style) (b : OptionF32) → InProfile s → BoxIs (step_a s b) (box_of_z (style_z s))
+pub step_a_is : (s : Style) (b : Option Float) → InProfile s → BoxIs (step_a s b) (box_of_z (style_z s))
 unfolding step_a
 step_a_is s b p = box_is s b None p
 
@@ -61,7 +59,7 @@ found_by_lem s p b q u v =
     let i = inset_across (insets_is s p (rw (box_both s) at b.both)) in
     larger_is (clamped_is (plus_is q i v) (wide_may b.min.width u) (wide_may b.max.width u)) (wide (both_across b.both) (omega arith))
 
-pub found_is : (s : Style) (parent : OptionF32) {x : Float} {k : ℤ} {n : ℕ} → InProfile s → Near x k n → 5120 ≤ n + 6144 → n + 6144 ≤ 2 ^ 24 → Near (found_width s parent x) (found_width_z (style_z s) k) (n + 6144)
+pub found_is : (s : Style) (parent : Option Float) {x : Float} {k : ℤ} {n : ℕ} → InProfile s → Near x k n → 5120 ≤ n + 6144 → n + 6144 ≤ 2 ^ 24 → Near (found_width s parent x) (found_width_z (style_z s) k) (n + 6144)
 unfolding found_width
 found_is s parent p q u v = found_by_lem s p (step_a_is s parent p) q u v
 
@@ -69,7 +67,7 @@ space_by : (s : Style) {z : Sizing} {n : ℕ} {a : AvailableSpace} {b : Availabl
 unfolding space_in_z
 space_by s p b q u = less_is q (inset_across (insets_is s p (rw (box_both s) at b.both))) u
 
-pub space_is : (s : Style) (parent : OptionF32) {n : ℕ} {a : AvailableSpace} {b : AvailableZ} → InProfile s → AvailableIs n a b → n + 6144 ≤ 2 ^ 24 → AvailableIs (n + 6144) (space_in s parent a) (space_in_z (style_z s) b)
+pub space_is : (s : Style) (parent : Option Float) {n : ℕ} {a : AvailableSpace} {b : AvailableZ} → InProfile s → AvailableIs n a b → n + 6144 ≤ 2 ^ 24 → AvailableIs (n + 6144) (space_in s parent a) (space_in_z (style_z s) b)
 unfolding space_in
 space_is s parent p q u = space_by s p (step_a_is s parent p) q u
 

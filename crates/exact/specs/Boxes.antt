@@ -1,14 +1,13 @@
 -- Steps A, B, D and E of a box of the profile are those over whole numbers. Assumes nothing.
-use Rattle.std.specs.Prelude.{◌≡◌, refl, Bool, true, false, cond, ℕ, ◌≤◌, T, ℤ, Float}
+use Rattle.std.specs.Option.{option_or}
+use Rattle.geometry.specs.declared.Size.{Size}
+use Rattle.std.specs.Prelude.{◌≡◌, refl, Bool, true, false, cond, ℕ, ◌≤◌, T, ℤ, Float, Option, None, Some}
 use Rattle.std.proofs.Common.{sym, subst, arith, lit≤}
 use Rattle.std.specs.Int.Signed.{le_z}
 use Rattle.std.specs.Float.Ieee.{le}
 use Rattle.geometry.specs.Geometry.{across, down, sum_axes, plus}
 use Rattle.geometry.specs.declared.Rect.{Rect}
-use Rattle.util.specs.Maybe.{or_else, clamp_opt, ratio_fills, add_size}
-use Rattle.util.specs.declared.OptionF32.{OptionF32}
-use Rattle.util.specs.declared.OptionF32.TheVariants.{None, Some}
-use Rattle.util.specs.declared.OptionSize.{OptionSize}
+use Rattle.util.specs.Maybe.{clamp_opt, ratio_fills, add_size}
 use Rattle.style.specs.declared.Overflow.{Overflow}
 use Rattle.style.specs.declared.Overflow.TheVariants.{Visible, Clip, Hidden, Scroll}
 use Rattle.style.specs.declared.Style.{Style}
@@ -31,13 +30,13 @@ pub pixel_is : (x : Float) → pixel x ≡ true → Near x (number x) 1024
 pixel_is x e = pixel_within x (subst T (sym e) tt)
 
 -- ---- sides and sizes: t bounds the top, s both sides, b the bottom
-pub record RectIs (r : Rect) (k : RectZ) (t s b : ℕ) : Type 0 where
+pub record RectIs (r : Rect Float) (k : RectZ) (t s b : ℕ) : Type 0 where
   pub top : Near r.top k.top t
   pub right : Near r.right k.right s
   pub bottom : Near r.bottom k.bottom b
   pub left : Near r.left k.left s
 
-pub record SizeIs (o : OptionSize) (k : SizeMay) (w h : ℕ) : Type 0 where
+pub record SizeIs (o : Size (Option Float)) (k : SizeMay) (w h : ℕ) : Type 0 where
   pub width : MayIs w o.width k.width
   pub height : MayIs h o.height k.height
 
@@ -50,20 +49,20 @@ pub record BoxIs (z : Sizing) (k : BoxZ) : Type 0 where
   pub min : SizeIs z.min k.min 5120 5120
   pub max : SizeIs z.max k.max 5120 5120
 
-pub both_across : {r : Rect} {k : RectZ} → RectIs r k 2048 2048 2048 → Near (across r) (across_z k) 4096
+pub both_across : {r : Rect Float} {k : RectZ} → RectIs r k 2048 2048 2048 → Near (across r) (across_z k) 4096
 unfolding across_z
 both_across p = plus_is p.left p.right (lit≤ tt)
 
-pub both_down : {r : Rect} {k : RectZ} → RectIs r k 2048 2048 2048 → Near (down r) (down_z k) 4096
+pub both_down : {r : Rect Float} {k : RectZ} → RectIs r k 2048 2048 2048 → Near (down r) (down_z k) 4096
 unfolding down_z
 both_down p = plus_is p.top p.bottom (lit≤ tt)
 
-pub boxed_is : (c : Bool) {o : OptionSize} {z : SizeMay} {r : Rect} {k : RectZ} → SizeIs o z 1024 1024 → RectIs r k 2048 2048 2048 → SizeIs (cond c (add_size o (sum_axes r)) o) (box_size_z c z k) 5120 5120
+pub boxed_is : (c : Bool) {o : Size (Option Float)} {z : SizeMay} {r : Rect Float} {k : RectZ} → SizeIs o z 1024 1024 → RectIs r k 2048 2048 2048 → SizeIs (cond c (add_size o (sum_axes r)) o) (box_size_z c z k) 5120 5120
 unfolding box_size_z add_size sum_axes
 boxed_is true p q = record { width = add_opt_is p.width (both_across q) (lit≤ tt); height = add_opt_is p.height (both_down q) (lit≤ tt) }
 boxed_is false p q = record { width = wide_may p.width (lit≤ tt); height = wide_may p.height (lit≤ tt) }
 
-pub plus_rect_is : {a b : Rect} {j k : RectZ} → RectIs a j 1024 1024 1024 → RectIs b k 1024 1024 1024 → RectIs (plus a b) (plus_z j k) 2048 2048 2048
+pub plus_rect_is : {a b : Rect Float} {j k : RectZ} → RectIs a j 1024 1024 1024 → RectIs b k 1024 1024 1024 → RectIs (plus a b) (plus_z j k) 2048 2048 2048
 unfolding plus plus_z
 plus_rect_is p q =
     record {
@@ -81,18 +80,18 @@ decided_by false p = none_is
 decided_two : {n : ℕ} {x y : Float} {k j : ℤ} → Near x k n → Near y j n → MayIs n (cond (le y x) (Some x) None) (cond (le_z j k) (SomeZ k) NoneZ)
 decided_two {n} {x} {y} {k} {j} p q = rw (within_le q p) (decided_by (le_z j k) p)
 
-decided_is : {n : ℕ} {lo hi : OptionF32} {a b : MayZ} → MayIs n lo a → MayIs n hi b → MayIs n (decided lo hi) (decided_z a b)
+decided_is : {n : ℕ} {lo hi : Option Float} {a b : MayZ} → MayIs n lo a → MayIs n hi b → MayIs n (decided lo hi) (decided_z a b)
 unfolding decided decided_z
 decided_is none_is q = none_is
 decided_is (some_is p) none_is = none_is
 decided_is (some_is p) (some_is q) = decided_two p q
 
-known_axis_is : {n : ℕ} {asked size lo hi : OptionF32} {d c a b : MayZ} {y : Float} {k : ℤ} → MayIs n asked d → MayIs n size c → MayIs n lo a → MayIs n hi b → Near y k n
+known_axis_is : {n : ℕ} {asked size lo hi : Option Float} {d c a b : MayZ} {y : Float} {k : ℤ} → MayIs n asked d → MayIs n size c → MayIs n lo a → MayIs n hi b → Near y k n
     → MayIs n (known_axis asked size lo hi y) (known_axis_z d c a b k)
 unfolding known_axis known_axis_z
 known_axis_is p q r s u = floor_opt_is (or_else_is p (or_else_is (decided_is r s) (clamp_opt_is q r s))) u
 
-pub step_b_is : {z : Sizing} {k : BoxZ} {o : OptionSize} {a : SizeMay} {w h : ℕ} → BoxIs z k → SizeIs o a w h → 5120 ≤ w → 5120 ≤ h → SizeIs (step_b z o) (known_z k a) w h
+pub step_b_is : {z : Sizing} {k : BoxZ} {o : Size (Option Float)} {a : SizeMay} {w h : ℕ} → BoxIs z k → SizeIs o a w h → 5120 ≤ w → 5120 ≤ h → SizeIs (step_b z o) (known_z k a) w h
 unfolding step_b known_z
 step_b_is p q u v =
     record {
@@ -101,16 +100,16 @@ step_b_is p q u v =
     }
 
 -- ---- D: without a ratio it fills nothing
-settled : {n : ℕ} {o : OptionF32} {a : MayZ} (lo hi : OptionF32) → MayIs n o a → MayIs n (or_else o (clamp_opt o lo hi)) a
-unfolding or_else clamp_opt
+settled : {n : ℕ} {o : Option Float} {a : MayZ} (lo hi : Option Float) → MayIs n o a → MayIs n (option_or o (clamp_opt o lo hi)) a
+unfolding clamp_opt
 settled lo hi none_is = none_is
 settled lo hi (some_is p) = some_is p
 
-pub step_d_is : (s : Style) (z : Sizing) {o : OptionSize} {a : SizeMay} {w h : ℕ} → s.ratio ≡ None → SizeIs o a w h → SizeIs (step_d s z o) a w h
+pub step_d_is : (s : Style) (z : Sizing) {o : Size (Option Float)} {a : SizeMay} {w h : ℕ} → s.ratio ≡ None → SizeIs o a w h → SizeIs (step_d s z o) a w h
 unfolding step_d filled ratio_fills
 step_d_is s z e p = rw e (record { width = settled _ _ p.width; height = settled _ _ p.height })
 
-pub known_is : (s : Style) {z : Sizing} {k : BoxZ} {o : OptionSize} {a : SizeMay} {w h : ℕ} → InProfile s → BoxIs z k → SizeIs o a w h → 5120 ≤ w → 5120 ≤ h → SizeIs (known_of s z o) (known_z k a) w h
+pub known_is : (s : Style) {z : Sizing} {k : BoxZ} {o : Size (Option Float)} {a : SizeMay} {w h : ℕ} → InProfile s → BoxIs z k → SizeIs o a w h → 5120 ≤ w → 5120 ≤ h → SizeIs (known_of s z o) (known_z k a) w h
 unfolding known_of
 known_is s {z} p q r u v = step_d_is s z p.ratio (step_b_is q r u v)
 
@@ -133,10 +132,10 @@ pub box_both : (s : Style) → (box_of_z (style_z s)).both ≡ box_both_z (style
 unfolding box_of_z
 box_both s = refl
 
-pub inset_across : {r : Rect} {k : RectZ} → RectIs r k 2048 3072 3072 → Near (across r) (across_z k) 6144
+pub inset_across : {r : Rect Float} {k : RectZ} → RectIs r k 2048 3072 3072 → Near (across r) (across_z k) 6144
 unfolding across_z
 inset_across p = plus_is p.left p.right (lit≤ tt)
 
-pub inset_down : {r : Rect} {k : RectZ} → RectIs r k 2048 3072 3072 → Near (down r) (down_z k) 5120
+pub inset_down : {r : Rect Float} {k : RectZ} → RectIs r k 2048 3072 3072 → Near (down r) (down_z k) 5120
 unfolding down_z
 inset_down p = plus_is p.top p.bottom (lit≤ tt)

@@ -1,11 +1,9 @@
 -- Candidates of both engines: what a row, put and lowered, makes of those below it. Assumes nothing.
-use Rattle.std.specs.Prelude.{◌≡◌, refl, Bool, true, cond, ◌||◌, List, [], ◌∷◌, ◌++◌, map, ℕ, suc, ◌+◌, ◌^◌, ◌≤◌, ℤ, ◌+ℤ◌, Float}
+use Rattle.std.specs.Prelude.{◌≡◌, refl, Bool, true, cond, ◌||◌, List, [], ◌∷◌, ◌++◌, map, ℕ, suc, ◌+◌, ◌^◌, ◌≤◌, ℤ, ◌+ℤ◌, Float, Option, None, Some}
 use Rattle.std.proofs.Common.{sym, ap, ◌∙◌, arith}
 use Rattle.std.proofs.Math.IntN.{+ℤ_assoc}
 use Rattle.geometry.specs.Floats.{◌⊕◌}
 use Rattle.geometry.specs.declared.Point.{Point}
-use Rattle.util.specs.declared.OptionF32.{OptionF32}
-use Rattle.util.specs.declared.OptionF32.TheVariants.{None, Some}
 use Rattle.style.specs.Codes.{flag_at}
 use Rattle.tree.specs.Tree.{Tree, Forest, node, none, more, map_t, map_f, root_t, on_root, count_t, count_f}
 use Rattle.steps.specs.Row.{Row, is_laid, is_out, bare, no_row, hidden_row, aside_row, put_at, lowered}
@@ -55,7 +53,7 @@ map_cands f g h no_cands = no_cands
 map_cands f g h (more_cands p q) = more_cands (h _ _ p) (map_cands f g h q)
 
 -- ---- the shift on one tree of rows
-abbrev pub align_t : OptionF32 → Tree Row → Tree Row
+abbrev pub align_t : Option Float → Tree Row → Tree Row
 align_t None t = t
 align_t (Some d) t = on_root (lowered d) t
 
@@ -63,7 +61,7 @@ abbrev pub align_tz : MayZ → Tree RowZ → Tree RowZ
 align_tz NoneZ t = t
 align_tz (SomeZ d) t = on_root (lowered_z d) t
 
-align_more : (d : OptionF32) (t : Tree Row) (ts : Forest Row) → align_f d (more t ts) ≡ more (align_t d t) (align_f d ts)
+align_more : (d : Option Float) (t : Tree Row) (ts : Forest Row) → align_f d (more t ts) ≡ more (align_t d t) (align_f d ts)
 unfolding align_f lower_f
 align_more None t ts = refl
 align_more (Some d) t ts = refl
@@ -73,7 +71,7 @@ unfolding align_fz lower_fz
 align_more_z NoneZ t ts = refl
 align_more_z (SomeZ d) t ts = refl
 
-align_none : (d : OptionF32) → align_f d none ≡ none
+align_none : (d : Option Float) → align_f d none ≡ none
 unfolding align_f lower_f
 align_none None = refl
 align_none (Some d) = refl
@@ -96,7 +94,7 @@ mutual
   count_f_lem (more t ts) none p = absurd p
   count_f_lem (more t ts) (more u us) p = rw (count_t_lem t u p.0, count_f_lem ts us p.1)
 
-count_align : (t : Tree Row) (u : Tree RowZ) (n : ℕ) (d : OptionF32) (e : MayZ) → RowsT n t u → count_t (align_t d t) ≡ count_t (align_tz e u)
+count_align : (t : Tree Row) (u : Tree RowZ) (n : ℕ) (d : Option Float) (e : MayZ) → RowsT n t u → count_t (align_t d t) ≡ count_t (align_tz e u)
 unfolding RowsT count_t on_root
 count_align (node r ks) (node z us) n None NoneZ p = ap suc (count_f_lem ks us p.1)
 count_align (node r ks) (node z us) n None (SomeZ e) p = ap suc (count_f_lem ks us p.1)
@@ -104,11 +102,11 @@ count_align (node r ks) (node z us) n (Some d) NoneZ p = ap suc (count_f_lem ks 
 count_align (node r ks) (node z us) n (Some d) (SomeZ e) p = ap suc (count_f_lem ks us p.1)
 
 -- ---- one child's and those of the rest
-pub none_listed : {s l : ℕ} (b : ℕ) (d : OptionF32) (e : MayZ) → CandsAre s l (candidates_f b (align_f d none)) (candidates_fz b (align_fz e none))
+pub none_listed : {s l : ℕ} (b : ℕ) (d : Option Float) (e : MayZ) → CandsAre s l (candidates_f b (align_f d none)) (candidates_fz b (align_fz e none))
 unfolding candidates_f candidates_fz
 none_listed b d e = rw (align_none d, align_none_z e) no_cands
 
-pub more_listed : {s l : ℕ} (t : Tree Row) (u : Tree RowZ) (ts : Forest Row) (us : Forest RowZ) (n : ℕ) (d : OptionF32) (e : MayZ) (b : ℕ) → RowsT n t u → CandsAre s l (candidates_t b (align_t d t)) (candidates_tz b (align_tz e u))
+pub more_listed : {s l : ℕ} (t : Tree Row) (u : Tree RowZ) (ts : Forest Row) (us : Forest RowZ) (n : ℕ) (d : Option Float) (e : MayZ) (b : ℕ) → RowsT n t u → CandsAre s l (candidates_t b (align_t d t)) (candidates_tz b (align_tz e u))
     → ((c : ℕ) → CandsAre s l (candidates_f c (align_f d ts)) (candidates_fz c (align_fz e us))) → CandsAre s l (candidates_f b (align_f d (more t ts))) (candidates_fz b (align_fz e (more u us)))
 unfolding candidates_f candidates_fz
 more_listed t u ts us n d e b p q r = rw (align_more d t ts, align_more_z e u us, ← count_align t u n d e p) (cands_join q (r (b + count_t (align_t d t))))
@@ -142,13 +140,13 @@ module _ {A B : Type 0} (R : A → B → Type 0) where
   zeros-listed (more t ts) none p b = absurd p
   zeros-listed (more t ts) (more u us) p b = rw (zero_more b t ts, zero_more_z b u us, ← count_t_lem (zeros_t t) (zeros_tz u) (zeros_t_lem R t u p.0)) (zeros-listed ts us p.1 (b + count_t (zeros_t t)))
 
-  pub hidden-listed : {s l : ℕ} (t : Tree A) (u : Tree B) (m n k : ℕ) {d : OptionF32} {e : MayZ} → MayIs m d e → (b : ℕ) → CandsAre s l (candidates_t b (align_t d (on_root (λ _. hidden_row n) (zeros_t t)))) (candidates_tz b (align_tz e (on_root (λ _. hidden_row_z k) (zeros_tz u))))
+  pub hidden-listed : {s l : ℕ} (t : Tree A) (u : Tree B) (m n k : ℕ) {d : Option Float} {e : MayZ} → MayIs m d e → (b : ℕ) → CandsAre s l (candidates_t b (align_t d (on_root (λ _. hidden_row n) (zeros_t t)))) (candidates_tz b (align_tz e (on_root (λ _. hidden_row_z k) (zeros_tz u))))
   unfolding candidates_t candidates_tz candidates_at candidates_at_z on_root zeros_t zeros_tz map_t lowered lowered_z hidden_row hidden_row_z bare bare_z is_laid is_out
   hidden-listed (node a ks) (node c us) m n k none_is b = no_cands
   hidden-listed (node a ks) (node c us) m n k (some_is p) b = no_cands
 
   -- an out-of-flow child lists itself
-  pub aside-listed : {s l : ℕ} (t : Tree A) (u : Tree B) (m n k : ℕ) {x y w : Float} {i j h : ℤ} {d : OptionF32} {e : MayZ} → MayIs m d e → Near x i s → Near y j l → Near w h s → n ≡ k → l + m ≤ 2 ^ 24 → (b : ℕ)
+  pub aside-listed : {s l : ℕ} (t : Tree A) (u : Tree B) (m n k : ℕ) {x y w : Float} {i j h : ℤ} {d : Option Float} {e : MayZ} → MayIs m d e → Near x i s → Near y j l → Near w h s → n ≡ k → l + m ≤ 2 ^ 24 → (b : ℕ)
       → CandsAre s (l + m) (candidates_t b (align_t d (on_root (λ _. aside_row x y w n) (zeros_t t)))) (candidates_tz b (align_tz e (on_root (λ _. aside_row_z i j h k) (zeros_tz u))))
   unfolding candidates_t candidates_tz candidates_at candidates_at_z candidate_of candidate_of_z on_root zeros_t zeros_tz map_t lowered lowered_z aside_row aside_row_z bare bare_z is_laid is_out
   aside-listed (node a ks) (node c us) m n k none_is p q r o v b = one_cand (record { node = refl; order = o; start = p; end = r; line = wide q (omega arith) })
@@ -175,19 +173,19 @@ exit_listed {s} {l} {x} {m} r z ks us b y i e f p u g h n q =
     line : (a : Float) (k : ℤ) → Near a k l → Near (a ⊕ r.place.y) (k +ℤ z.place.y) m
     line a k o = rw (g, h) (n a k o)
 
-put_laid : (p : Point) (k : ℕ) (r : Row) → is_laid r ≡ true → is_laid (put_at p k r) ≡ true
+put_laid : (p : Point Float) (k : ℕ) (r : Row) → is_laid r ≡ true → is_laid (put_at p k r) ≡ true
 unfolding put_at is_laid
 put_laid p k r e = e
 
-put_bits : (p : Point) (q : PointZ) (k j : ℕ) (r : Row) (z : RowZ) → r.bits ≡ z.bits → (put_at p k r).bits ≡ (put_at_z q j z).bits
+put_bits : (p : Point Float) (q : PointZ) (k j : ℕ) (r : Row) (z : RowZ) → r.bits ≡ z.bits → (put_at p k r).bits ≡ (put_at_z q j z).bits
 unfolding put_at put_at_z
 put_bits p q k j r z e = e
 
-put_x : {x n : ℕ} {p : Point} {q : PointZ} (k j : ℕ) (r : Row) (z : RowZ) → PointIs x n p q → Near (put_at p k r).place.x (put_at_z q j z).place.x x
+put_x : {x n : ℕ} {p : Point Float} {q : PointZ} (k j : ℕ) (r : Row) (z : RowZ) → PointIs x n p q → Near (put_at p k r).place.x (put_at_z q j z).place.x x
 unfolding put_at put_at_z
 put_x k j r z p = p.x
 
-put_y : (p : Point) (k : ℕ) (r : Row) → (put_at p k r).place.y ≡ p.y
+put_y : (p : Point Float) (k : ℕ) (r : Row) → (put_at p k r).place.y ≡ p.y
 unfolding put_at
 put_y p k r = refl
 
@@ -225,12 +223,12 @@ laid_bits_lem r z e f = sym (ap (λ (n : ℕ). flag_at n 0) f) ∙ e
 abbrev pub Below : ℕ → ℕ → Tree Row → Tree RowZ → Type 0
 Below s l t u = (b : ℕ) → CandsAre s l (candidates_f b (kids_t t)) (candidates_fz b (kids_t u))
 
-placed_still : {s l x n : ℕ} (r : Row) (z : RowZ) (ks : Forest Row) (us : Forest RowZ) {p : Point} {q : PointZ} (k j : ℕ) → is_laid r ≡ true → r.bits ≡ z.bits → PointIs x n p q → s + x ≤ 2 ^ 24 → l + n ≤ 2 ^ 24 → (b : ℕ) → CandsAre s l (candidates_f (suc b) ks) (candidates_fz (suc b) us)
+placed_still : {s l x n : ℕ} (r : Row) (z : RowZ) (ks : Forest Row) (us : Forest RowZ) {p : Point Float} {q : PointZ} (k j : ℕ) → is_laid r ≡ true → r.bits ≡ z.bits → PointIs x n p q → s + x ≤ 2 ^ 24 → l + n ≤ 2 ^ 24 → (b : ℕ) → CandsAre s l (candidates_f (suc b) ks) (candidates_fz (suc b) us)
     → CandsAre (s + x) (l + n) (candidates_at b (put_at p k r) (candidates_f (suc b) ks)) (candidates_at_z b (put_at_z q j z) (candidates_fz (suc b) us))
 placed_still r z ks us {p} {q} k j e f i u v b h =
     exit_listed (put_at p k r) (put_at_z q j z) ks us b p.y q.y (put_laid p k r e) (put_bits p q k j r z f) (put_x k j r z i) u (put_y p k r) (put_y_z q j z) (λ a k o. plus_is o i.y v) h
 
-placed_low : {s l x n m : ℕ} (r : Row) (z : RowZ) (ks : Forest Row) (us : Forest RowZ) {p : Point} {q : PointZ} (k j : ℕ) {d : Float} {e : ℤ} → is_laid r ≡ true → r.bits ≡ z.bits → PointIs x n p q → Near d e m → s + x ≤ 2 ^ 24 → l + n + m ≤ 2 ^ 24 → (b : ℕ) → CandsAre s l (candidates_f (suc b) ks) (candidates_fz (suc b) us)
+placed_low : {s l x n m : ℕ} (r : Row) (z : RowZ) (ks : Forest Row) (us : Forest RowZ) {p : Point Float} {q : PointZ} (k j : ℕ) {d : Float} {e : ℤ} → is_laid r ≡ true → r.bits ≡ z.bits → PointIs x n p q → Near d e m → s + x ≤ 2 ^ 24 → l + n + m ≤ 2 ^ 24 → (b : ℕ) → CandsAre s l (candidates_f (suc b) ks) (candidates_fz (suc b) us)
     → CandsAre (s + x) (l + n + m) (candidates_at b (lowered d (put_at p k r)) (candidates_f (suc b) ks)) (candidates_at_z b (lowered_z e (put_at_z q j z)) (candidates_fz (suc b) us))
 placed_low r z ks us {p} {q} k j {d} {e} a f i o u v b h =
     let w = put_laid p k r a in
@@ -238,7 +236,7 @@ placed_low r z ks us {p} {q} k j {d} {e} a f i o u v b h =
     exit_listed (lowered d (put_at p k r)) (lowered_z e (put_at_z q j z)) ks us b (p.y ⊕ d) (q.y +ℤ e) (low_laid d (put_at p k r) w) (low_bits d e (put_at p k r) (put_at_z q j z) g) (low_x d e (put_at p k r) (put_at_z q j z) (put_x k j r z i)) u
     (low_y d (put_at p k r) w ∙ ap (λ (y : Float). y ⊕ d) (put_y p k r)) (low_y_z e (put_at_z q j z) (laid_bits_lem (put_at p k r) (put_at_z q j z) w g) ∙ ap (λ (y : ℤ). y +ℤ e) (put_y_z q j z)) (λ a k x. down_is i.y o v x) h
 
-pub placed_listed : {s l x n m : ℕ} (t : Tree Row) (u : Tree RowZ) {p : Point} {q : PointZ} (k j : ℕ) {d : OptionF32} {e : MayZ} → is_laid (root_t t) ≡ true → (root_t t).bits ≡ (root_t u).bits → Below s l t u → PointIs x n p q → MayIs m d e → s + x ≤ 2 ^ 24 → l + n + m ≤ 2 ^ 24
+pub placed_listed : {s l x n m : ℕ} (t : Tree Row) (u : Tree RowZ) {p : Point Float} {q : PointZ} (k j : ℕ) {d : Option Float} {e : MayZ} → is_laid (root_t t) ≡ true → (root_t t).bits ≡ (root_t u).bits → Below s l t u → PointIs x n p q → MayIs m d e → s + x ≤ 2 ^ 24 → l + n + m ≤ 2 ^ 24
     → (b : ℕ) → CandsAre (s + x) (l + n + m) (candidates_t b (align_t d (on_root (put_at p k) t))) (candidates_tz b (align_tz e (on_root (put_at_z q j) u)))
 unfolding candidates_t candidates_tz on_root root_t
 placed_listed (node r ks) (node z us) k j f g h i none_is v w b = cands_wide (placed_still r z ks us k j f g i v (omega arith) b (h (suc b))) (omega arith) (omega arith)

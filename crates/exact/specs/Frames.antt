@@ -1,12 +1,10 @@
 -- Step I, and what step J asks of a child, on a page of the profile. Assumes nothing.
-use Rattle.std.specs.Prelude.{◌≡◌, refl, Bool, true, false, cond, not, ◌&&◌, ℕ, ◌+◌, ◌^◌, ◌≤◌, ℤ, ◌-ℤ◌, Float}
+use Rattle.geometry.specs.declared.Size.{Size}
+use Rattle.std.specs.Prelude.{◌≡◌, refl, Bool, true, false, cond, not, ◌&&◌, ℕ, ◌+◌, ◌^◌, ◌≤◌, ℤ, ◌-ℤ◌, Float, Option, None}
 use Rattle.std.proofs.Common.{arith, lit≤}
 use Rattle.geometry.specs.Geometry.{across}
 use Rattle.geometry.specs.declared.Point.{Point}
 use Rattle.geometry.specs.declared.Rect.{Rect}
-use Rattle.util.specs.declared.OptionF32.{OptionF32}
-use Rattle.util.specs.declared.OptionF32.TheVariants.{None}
-use Rattle.util.specs.declared.OptionSize.{OptionSize}
 use Rattle.length.specs.Length.{is_auto}
 use Rattle.length.specs.declared.Length.{Length}
 use Rattle.length.specs.declared.Length.TheVariants.{Auto, Pixels, Fraction}
@@ -64,27 +62,27 @@ pub adjoins_is : (s : Style) {a b : Bool} {x y : Float} {j k : ℤ} {n m : ℕ} 
 unfolding adjoins adjoins_z
 adjoins_is s e p q = rw (e, plain_is s, within_eq p nought, within_eq q nought)
 
-open_is : {a b : Rect} {j k : RectZ} → RectIs a j 1024 1024 1024 → RectIs b k 1024 1024 1024 → open_box a b ≡ open_box_z j k
+open_is : {a b : Rect Float} {j k : RectZ} → RectIs a j 1024 1024 1024 → RectIs b k 1024 1024 1024 → open_box a b ≡ open_box_z j k
 unfolding open_box open_box_z
 open_is p q = rw (within_lt nought p.top, within_lt nought p.bottom, within_lt nought q.top, within_lt nought q.bottom)
 
-pub hollow_is : (s : Style) {t u : Bool} {a b : Rect} {j k : RectZ} → t ≡ u → RectIs a j 1024 1024 1024 → RectIs b k 1024 1024 1024 → hollow_box s t a b ≡ hollow_box_z (style_z s) u j k
+pub hollow_is : (s : Style) {t u : Bool} {a b : Rect Float} {j k : RectZ} → t ≡ u → RectIs a j 1024 1024 1024 → RectIs b k 1024 1024 1024 → hollow_box s t a b ≡ hollow_box_z (style_z s) u j k
 unfolding hollow_box hollow_box_z
 hollow_is s e p q = rw (e, plain_is s, open_is p q)
 
-pub own_end_is : (s : Style) {a b : Bool} {x y : Float} {j k : ℤ} {n m r : ℕ} {o : OptionF32} {c : MayZ} → a ≡ b → Near x j n → Near y k m → MayIs r o c → own_end_of s a x y o ≡ (adjoins_z (style_z s) b j k && not (is_some_z c))
+pub own_end_is : (s : Style) {a b : Bool} {x y : Float} {j k : ℤ} {n m r : ℕ} {o : Option Float} {c : MayZ} → a ≡ b → Near x j n → Near y k m → MayIs r o c → own_end_of s a x y o ≡ (adjoins_z (style_z s) b j k && not (is_some_z c))
 unfolding own_end_of
 own_end_is s e p q r = rw (adjoins_is s e p q, is_some_is r)
 
-may_cond : (t : Bool) {n : ℕ} {o : OptionF32} {a : MayZ} → MayIs n o a → MayIs n (cond t None o) (cond t NoneZ a)
+may_cond : (t : Bool) {n : ℕ} {o : Option Float} {a : MayZ} → MayIs n o a → MayIs n (cond t None o) (cond t NoneZ a)
 may_cond true p = none_is
 may_cond false p = p
 
-definite_of_is : {w : ℕ} {q : LayoutInput} {z : InputZ} {o : OptionF32} {a : MayZ} → InputIs w q z → MayIs 5120 o a → MayIs 5120 (definite_of q o) (definite_of_z z a)
+definite_of_is : {w : ℕ} {q : LayoutInput} {z : InputZ} {o : Option Float} {a : MayZ} → InputIs w q z → MayIs 5120 o a → MayIs 5120 (definite_of q o) (definite_of_z z a)
 unfolding definite_of definite_of_z
 definite_of_is {w} {q} {z} p r = rw (is_some_is p.known.height, p.definite) (may_cond (is_some_z z.known.height && not z.definiteHeight) r)
 
-pub basis_is : {w u : ℕ} {q : LayoutInput} {z : InputZ} {o : OptionSize} {a : SizeMay} {r : Rect} {k : RectZ} → InputIs w q z → SizeIs o a u 5120 → RectIs r k 2048 3072 3072 → MayIs 10240 (basis_below q o r) (basis_below_z z a k)
+pub basis_is : {w u : ℕ} {q : LayoutInput} {z : InputZ} {o : Size (Option Float)} {a : SizeMay} {r : Rect Float} {k : RectZ} → InputIs w q z → SizeIs o a u 5120 → RectIs r k 2048 3072 3072 → MayIs 10240 (basis_below q o r) (basis_below_z z a k)
 unfolding basis_below basis_below_z
 basis_is p s r = sub_opt_is (definite_of_is p s.height) (inset_down r) (lit≤ tt)
 
@@ -97,7 +95,7 @@ pub inner_is : {w : ℕ} {f : Frame} {z : FrameZ} → FrameIs w f z → w + 6144
 unfolding inner_width inner_width_z
 inner_is p u = minus_is p.width (inset_across p.inset) u
 
-pub record PointIs (n m : ℕ) (p : Point) (z : PointZ) : Type 0 where
+pub record PointIs (n m : ℕ) (p : Point Float) (z : PointZ) : Type 0 where
   pub x : Near p.x z.x n
   pub y : Near p.y z.y m
 
@@ -109,7 +107,7 @@ pub record ItemIs (i : BlockItem) (z : ItemZ) : Type 0 where
   pub sides : (i.left && i.right) ≡ false
   pub offset : PointIs 1024 1024 i.offset z.offset
 
-pub offset_x_is : (t : Bool) {l r : OptionF32} {a b : MayZ} → MayIs 1024 l a → MayIs 1024 r b → Near (offset_x l r t) (offset_xz a b t) 1024
+pub offset_x_is : (t : Bool) {l r : Option Float} {a b : MayZ} → MayIs 1024 l a → MayIs 1024 r b → Near (offset_x l r t) (offset_xz a b t) 1024
 unfolding offset_x offset_xz
 offset_x_is t p q = near_cond t (or_zero_is (or_else_is (neg_opt_is q) p)) (or_zero_is (or_else_is p (neg_opt_is q)))
 
@@ -120,7 +118,7 @@ auto_is (Pixels x) e = refl
 auto_is (Fraction f) e = no e
 
 -- both side margins
-pub margins_across : {r : Rect} {k : RectZ} → RectIs r k 1024 1024 1024 → Near (across r) (across_z k) 2048
+pub margins_across : {r : Rect Float} {k : RectZ} → RectIs r k 1024 1024 1024 → Near (across r) (across_z k) 2048
 unfolding across_z
 margins_across p = plus_is p.left p.right (lit≤ tt)
 

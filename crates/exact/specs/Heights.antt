@@ -1,13 +1,11 @@
 -- Steps K to N on a page of the profile, and a leaf's answer. Assumes nothing.
 -- Free space is 0 where the content decides the height; else the height is at most 5120, and free space at most that and the content.
-use Rattle.std.specs.Prelude.{◌≡◌, refl, Bool, true, false, cond, not, ◌&&◌, ◌||◌, ℕ, suc, ◌+◌, ◌*◌, ◌^◌, ◌≤◌, ℤ, ◌-ℤ◌, Float}
+use Rattle.std.specs.Prelude.{◌≡◌, refl, Bool, true, false, cond, not, ◌&&◌, ◌||◌, ℕ, suc, ◌+◌, ◌*◌, ◌^◌, ◌≤◌, ℤ, ◌-ℤ◌, Float, Option, None}
 use Rattle.std.proofs.Common.{sym, ap, ◌∙◌, arith, lit≤}
 use Rattle.std.proofs.Math.IntN.{+ℤ_invr}
 use Rattle.geometry.specs.Floats.{◌⊖◌}
 use Rattle.geometry.specs.Geometry.{down}
 use Rattle.util.specs.Maybe.{add_opt}
-use Rattle.util.specs.declared.OptionF32.{OptionF32}
-use Rattle.util.specs.declared.OptionF32.TheVariants.{None}
 use Rattle.alignment.specs.Align.{room_of, align_shift}
 use Rattle.style.specs.declared.AlignContent.{AlignContent}
 use Rattle.style.specs.declared.AlignContent.TheVariants.{Normal, Start, Center, End, SpaceBetween, SpaceAround, SpaceEvenly, Stretch}
@@ -52,7 +50,7 @@ pub step_l_is : {w n : ℕ} {f : Frame} {g : FrameZ} {x : Float} {c : ℤ} → F
 unfolding step_l step_lz
 step_l_is p q = tall_larger (tall_unwrap p.height (tall_clamped (same q refl) p.least p.most)) (wide p.floor (lit≤ tt))
 
-held_is : {n m : ℕ} {o : OptionF32} {a : MayZ} {x : Float} {k : ℤ} → MayIs n o a → Near x k m → held_open o x ≡ held_open_z a k
+held_is : {n m : ℕ} {o : Option Float} {a : MayZ} {x : Float} {k : ℤ} → MayIs n o a → Near x k m → held_open o x ≡ held_open_z a k
 unfolding held_open held_open_z
 held_is none_is q = refl
 held_is (some_is p) q = rw (within_lt nought p, within_le q p)
@@ -96,17 +94,17 @@ free_in f h c = freed h (down f.inset) c
 abbrev pub free_in_z : FrameZ → ℤ → ℤ → ℤ
 free_in_z f h c = freed_z h (down_z f.inset) c
 
-shifted_is : {n m : ℕ} {o d : OptionF32} {a b : MayZ} → MayIs n o a → MayIs m d b → n + m ≤ 2 ^ 24 → MayIs (n + m) (shifted o d) (shifted_z a b)
+shifted_is : {n m : ℕ} {o d : Option Float} {a b : MayZ} → MayIs n o a → MayIs m d b → n + m ≤ 2 ^ 24 → MayIs (n + m) (shifted o d) (shifted_z a b)
 unfolding shifted shifted_z add_opt add_opt_z
 shifted_is p none_is u = wide_may p (omega arith)
 shifted_is none_is (some_is q) u = none_is
 shifted_is (some_is p) (some_is q) u = some_is (plus_is p q u)
 
-line_cond : (t : Bool) {n : ℕ} {o : OptionF32} {a : MayZ} → MayIs n o a → MayIs n (cond t None o) (cond t NoneZ a)
+line_cond : (t : Bool) {n : ℕ} {o : Option Float} {a : MayZ} → MayIs n o a → MayIs n (cond t None o) (cond t NoneZ a)
 line_cond true p = none_is
 line_cond false p = p
 
-pub block_line_is : (s : Style) {n m : ℕ} {o d : OptionF32} {a b : MayZ} → MayIs n o a → MayIs m d b → n + m ≤ 2 ^ 24 → MayIs (n + m) (block_baseline s o d) (cond (style_z s).contained NoneZ (shifted_z a b))
+pub block_line_is : (s : Style) {n m : ℕ} {o d : Option Float} {a b : MayZ} → MayIs n o a → MayIs m d b → n + m ≤ 2 ^ 24 → MayIs (n + m) (block_baseline s o d) (cond (style_z s).contained NoneZ (shifted_z a b))
 unfolding block_baseline style_z
 block_line_is s p q u = line_cond s.contained (shifted_is p q u)
 

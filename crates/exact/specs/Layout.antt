@@ -1,9 +1,8 @@
 -- The final pass of a page of the profile, over the tree: answers, rows and candidates. Assumes nothing.
 -- w bounds the width of a box: start and end of the candidates below it stay within 2 w + 40960 for each level.
-use Rattle.std.specs.Prelude.{◌≡◌, refl, true, false, ℕ, suc, ◌+◌, ◌*◌, ◌^◌, ◌≤◌, ℤ, pos, Float}
+use Rattle.std.specs.Prelude.{◌≡◌, refl, true, false, ℕ, suc, ◌+◌, ◌*◌, ◌^◌, ◌≤◌, ℤ, pos, Float, Option}
 use Rattle.std.proofs.Common.{ap, ◌∙◌, arith, lit≤}
 use Rattle.geometry.specs.Geometry.{zero_f}
-use Rattle.util.specs.declared.OptionF32.{OptionF32}
 use Rattle.style.specs.Flow.{is_leaf, flow_of}
 use Rattle.style.specs.declared.Style.{Style}
 use Rattle.tree.specs.Tree.{Tree, Forest, node, none, root_t, count_t}
@@ -46,7 +45,7 @@ pub record LaidAt (w k D : ℕ) (a : Laid) (z : LaidZ) : Type 0 where
 
 -- the candidates of the rows of a stack, whatever shift is still to come: l bounds their lines before it
 abbrev pub Listed : ℕ → ℕ → Forest Row → Forest RowZ → Type 0
-Listed s l ts us = (m : ℕ) (d : OptionF32) (e : MayZ) → MayIs m d e → l + m ≤ 2 ^ 24 → (b : ℕ) → CandsAre s (l + m) (candidates_f b (align_f d ts)) (candidates_fz b (align_fz e us))
+Listed s l ts us = (m : ℕ) (d : Option Float) (e : MayZ) → MayIs m d e → l + m ≤ 2 ^ 24 → (b : ℕ) → CandsAre s (l + m) (candidates_f b (align_f d ts)) (candidates_fz b (align_fz e us))
 
 -- the stack past k nodes, from a cursor whose lines l bounds; rows are still to be lowered
 pub record StackedAt (w k D l : ℕ) (s : Stacked) (z : StackedZ) : Type 0 where

@@ -1,5 +1,5 @@
 -- Rows of both engines as lists: number by number the same, the words the same, and refusal 8 sees none. Assumes nothing.
-use Rattle.std.specs.Prelude.{◌≡◌, refl, true, false, ℕ, zero, suc, ◌+◌, ◌*◌, get_or, ℤ, Float}
+use Rattle.std.specs.Prelude.{◌≡◌, refl, true, false, ℕ, zero, suc, ◌+◌, ◌*◌, get_or, ℤ, Float, None}
 use Rattle.std.proofs.Common.{ap, ◌∙◌, lit≤, lit<}
 use mathlib.Core.List.{List, [], ◌∷◌, ◌++◌}
 use Rattle.geometry.specs.Geometry.{zero_f}
@@ -9,7 +9,6 @@ use Rattle.steps.specs.Row.{Row, row_numbers, row_words}
 use Rattle.steps.specs.Scan.{lowest}
 use Rattle.steps.specs.Noes.{bad_row}
 use Rattle.steps.specs.Results.{rows_out, marks_out}
-use Rattle.steps.specs.declared.Found.TheVariants.{Nowhere}
 use Rattle.tables.proofs.ScanLaws.{is_none, nowhere-lowest}
 use Rattle.whole.specs.Range.{wider, within_limit, zero_is}
 use Rattle.integers.specs.Rows.{RowZ, row_numbers_z, row_words_z}
@@ -113,6 +112,6 @@ small_at (a ∷ l) [] p j = absurd p
 small_at (a ∷ l) (b ∷ m) p zero = small_number p.0
 small_at (a ∷ l) (b ∷ m) p (suc j) = small_at l m p.1 j
 
-pub no_eight : (l : List Float) (m : List ℤ) (n : ℕ) → RelL Holds l m → lowest (bad_row l) n ≡ Nowhere
+pub no_eight : (l : List Float) (m : List ℤ) (n : ℕ) → RelL Holds l m → lowest (bad_row l) n ≡ None
 unfolding bad_row
 no_eight l m n p = nowhere-lowest (bad_row l) n (λ i u. is_none (λ (k : ℕ). too_large (get_or l (16 * i + k) zero_f)) (λ _. true) false 16 0 (λ j v w. small_at l m p (16 * i + j)))

@@ -1,5 +1,8 @@
 -- The theorem of lent tables: of a layout, of a relayout from rows that calls left, and of the size question.
-use Rattle.std.specs.Prelude.{◌≡◌, refl, false, ◌||◌, List, [], ℕ, ◌≤◌, length, Float}
+use Rattle.steps.specs.declared.Refusal.TheVariants.{Lengths}
+use Rattle.steps.specs.declared.Refusal.{Refusal}
+use Rattle.tree.specs.declared.NodeId.{NodeId}
+use Rattle.std.specs.Prelude.{◌≡◌, refl, false, ◌||◌, List, [], ℕ, ◌≤◌, length, Float, Option, None, Result, Ok, ⊤}
 use Rattle.std.proofs.Common.{ap, arith}
 use Rattle.geometry.specs.declared.Size.{Size}
 use Rattle.limits.specs.Bools.{or_left}
@@ -12,13 +15,6 @@ use Rattle.steps.specs.Noes.{bad_tables, bad_rows, bad_row, refuse_if, no5, page
 use Rattle.steps.specs.Results.{Reply, rows_out, listed, on_front, accepted, over_limit, replied, tested, size_reply, size_by_test, size_result}
 use Rattle.steps.specs.declared.LayoutInput.{LayoutInput}
 use Rattle.steps.specs.declared.RequestedAxis.{RequestedAxis}
-use Rattle.steps.specs.declared.Answer.TheVariants.{Done, Lengths}
-use Rattle.steps.specs.declared.SizeAnswer.TheVariants.{Sized}
-use Rattle.steps.specs.declared.Tested.{Tested}
-use Rattle.steps.specs.declared.Tested.TheVariants.{Pass}
-use Rattle.steps.specs.declared.Found.{Found}
-use Rattle.steps.specs.declared.Found.TheVariants.{Nowhere}
-use Rattle.steps.specs.declared.Spot.TheVariants as spot
 use Rattle.tables.specs.TreeCheck.{GoodTable}
 use Rattle.tables.proofs.Passing.{sized, page_passes, then_pass_1, then_pass_2, if_pass}
 use Rattle.tables.proofs.GoodPage.{good_page}
@@ -52,7 +48,7 @@ pub record Told (ws : List ℕ) (xs : List Float) (q : LayoutInput) : Type 0 whe
   pub count : count_t (page_of ws xs []) ≤ 1024
   pub depth : depth_t (page_of ws xs []) ≤ 32
 
-pub told : (ws : List ℕ) (xs : List Float) (q : LayoutInput) → bad_tables ws xs ≡ false → page_tested ws xs q ≡ Pass → profile_spot ws xs q ≡ spot.Nowhere → Told ws xs q
+pub told : (ws : List ℕ) (xs : List Float) (q : LayoutInput) → bad_tables ws xs ≡ false → page_tested ws xs q ≡ Ok tt → profile_spot ws xs q ≡ None → Told ws xs q
 told ws xs q b t e =
     let z = sized ws xs b in
     let p = page_passes ws xs q t in
@@ -72,7 +68,7 @@ told ws xs q b t e =
 -- The reply of an exact call: it is accepted, so refusal 8 is not given; every number of every row and of every candidate is, as a number, the integer
 -- engine's; row words and candidate words are the same, and memory past the list is as lent.
 pub record ExactReply (r : Reply) (t : Tree RowZ) (cw : List ℕ) (cx : List Float) : Type 0 where
-  pub answer : r.answer ≡ Done (length (candidates_z t))
+  pub answer : r.answer ≡ Ok (length (candidates_z t))
   pub rows : RelL Whole r.rows (rows_out_z t)
   pub marks : r.marks ≡ marks_out_z t
   pub words : r.words ≡ on_front (listed candidate_words_z (candidates_z t)) cw
@@ -80,11 +76,11 @@ pub record ExactReply (r : Reply) (t : Tree RowZ) (cw : List ℕ) (cx : List Flo
   pub front : r.numbers ≡ on_front list cx
   pub numbers : RelL Whole list (listed candidate_numbers_z (candidates_z t))
 
-limit_reply : (w : Found) (t : Tree Row) (rs : List Float) (ms cw : List ℕ) (cx : List Float) → w ≡ Nowhere → over_limit w t rs ms cw cx ≡ accepted t cw cx
+limit_reply : (w : Option NodeId) (t : Tree Row) (rs : List Float) (ms cw : List ℕ) (cx : List Float) → w ≡ None → over_limit w t rs ms cw cx ≡ accepted t cw cx
 unfolding over_limit
 limit_reply w t rs ms cw cx e = rw e
 
-pub passed_reply : (u : Tested) (n : ℕ) (t : Tree Row) (rs : List Float) (ms cw : List ℕ) (cx : List Float) → u ≡ Pass → lowest (bad_row (rows_out t)) n ≡ Nowhere → tested u (replied n t rs ms cw cx) rs ms cw cx ≡ accepted t cw cx
+pub passed_reply : (u : Result ⊤ Refusal) (n : ℕ) (t : Tree Row) (rs : List Float) (ms cw : List ℕ) (cx : List Float) → u ≡ Ok tt → lowest (bad_row (rows_out t)) n ≡ None → tested u (replied n t rs ms cw cx) rs ms cw cx ≡ accepted t cw cx
 unfolding tested replied
 passed_reply u n t rs ms cw cx p e = rw p (limit_reply (lowest (bad_row (rows_out t)) n) t rs ms cw cx e)
 
@@ -92,7 +88,7 @@ pub exact_reply : (t : Tree Row) (u : Tree RowZ) (cw : List ℕ) (cx : List Floa
 unfolding accepted
 exact_reply t u cw cx p q =
     record {
-      answer = ap Done (same_count q);
+      answer = ap Ok (same_count q);
       rows = rel-weak Holds Whole (λ x k h. h.whole) _ _ (rows_out_lem t u p);
       marks = marks_out_lem t u p;
       words = ap (λ (l : List ℕ). on_front l cw) (same_words q);
@@ -101,7 +97,7 @@ exact_reply t u cw cx p q =
       numbers = rel-weak Holds Whole (λ x k h. h.whole) _ _ (same_numbers _ _ q);
     }
 
-pub layout_told : (ws : List ℕ) (xs rs : List Float) (ms cw : List ℕ) (cx : List Float) (q : LayoutInput) → layout_tested ws xs rs ms cw cx q ≡ Pass → profile_spot ws xs q ≡ spot.Nowhere → Told ws xs q
+pub layout_told : (ws : List ℕ) (xs rs : List Float) (ms cw : List ℕ) (cx : List Float) (q : LayoutInput) → layout_tested ws xs rs ms cw cx q ≡ Ok tt → profile_spot ws xs q ≡ None → Told ws xs q
 unfolding layout_tested
 layout_told ws xs rs ms cw cx q e s =
     let b = or_left (bad_tables ws xs) _ (if_pass (bad_tables ws xs || bad_rows ws rs ms) Lengths (then_pass_1 (refuse_if (bad_tables ws xs || bad_rows ws rs ms) Lengths) _ e)) in
@@ -109,15 +105,15 @@ layout_told ws xs rs ms cw cx q e s =
 
 -- ---- the size question
 pub record ExactSize (ws : List ℕ) (xs : List Float) (q : LayoutInput) (a : RequestedAxis) (z : SizeZ) : Type 0 where
-  pub size : Size
-  pub answer : size_result ws xs q a ≡ Sized size
+  pub size : Size Float
+  pub answer : size_result ws xs q a ≡ Ok size
   pub width : Whole size.width z.width
   pub height : Whole size.height z.height
 
-size_small : (s : Size) (z : SizeZ) → SizeHolds s z → size_reply s ≡ Sized s
+size_small : (s : Size Float) (z : SizeZ) → SizeHolds s z → size_reply s ≡ Ok s
 unfolding size_reply
 size_small s z p = rw (small_number p.width, small_number p.height)
 
-pub by_test_lem : (t : Tested) (s : Size) (z : SizeZ) → t ≡ Pass → SizeHolds s z → size_by_test t (size_reply s) ≡ Sized s
+pub by_test_lem : (t : Result ⊤ Refusal) (s : Size Float) (z : SizeZ) → t ≡ Ok tt → SizeHolds s z → size_by_test t (size_reply s) ≡ Ok s
 unfolding size_by_test
 by_test_lem t s z e p = rw e (size_small s z p)

@@ -1,10 +1,9 @@
 -- What the engine over whole numbers is given of a page and a question: each number read as a whole number.
-use Rattle.util.specs.declared.OptionF32.{OptionF32}
-use Rattle.util.specs.declared.OptionF32.TheVariants.{None, Some}
+use Rattle.std.specs.Prelude.{Option, None, Some, Float}
+use Rattle.geometry.specs.declared.Size.{Size}
+use Rattle.geometry.specs.declared.Rect.{Rect}
 use Rattle.length.specs.declared.Length.{Length}
 use Rattle.length.specs.declared.Length.TheVariants.{Auto, Pixels, Fraction}
-use Rattle.length.specs.declared.LengthRect.{LengthRect}
-use Rattle.length.specs.declared.LengthSize.{LengthSize}
 use Rattle.length.specs.declared.AvailableSpace.{AvailableSpace}
 use Rattle.length.specs.declared.AvailableSpace.TheVariants.{Definite, MinContent, MaxContent}
 use Rattle.style.specs.declared.Measure.{Measure}
@@ -22,14 +21,14 @@ length_z Auto = NoneZ
 length_z (Pixels x) = SomeZ (number x)
 length_z (Fraction f) = NoneZ
 
-abbrev pub option_z : OptionF32 → MayZ
+abbrev pub option_z : Option Float → MayZ
 option_z None = NoneZ
 option_z (Some x) = SomeZ (number x)
 
-abbrev pub size_z : LengthSize → SizeMay
+abbrev pub size_z : Size Length → SizeMay
 size_z l = record { width = length_z l.width; height = length_z l.height }
 
-abbrev pub rect_z : LengthRect → RectMay
+abbrev pub rect_z : Rect Length → RectMay
 rect_z l = record { top = length_z l.top; right = length_z l.right; bottom = length_z l.bottom; left = length_z l.left }
 
 abbrev pub measure_z : Measure → MeasureZ

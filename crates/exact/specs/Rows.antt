@@ -1,5 +1,5 @@
 -- Rows of both engines: each number the same whole number, the words the same. Assumes nothing.
-use Rattle.std.specs.Prelude.{◌≡◌, refl, Bool, ◌||◌, ℕ, ◌+◌, ◌*◌, ◌≤◌, ℤ, Float}
+use Rattle.std.specs.Prelude.{◌≡◌, refl, Bool, ◌||◌, ℕ, ◌+◌, ◌*◌, ◌≤◌, ℤ, Float, Option}
 use Rattle.std.proofs.Common.{ap, arith, lit≤}
 use Rattle.geometry.specs.declared.Point.{Point}
 use Rattle.style.specs.Codes.{flag_at}
@@ -7,7 +7,6 @@ use Rattle.tree.specs.Tree.{Tree, Forest, node, none, more, map_t, on_root}
 use Rattle.steps.specs.Row.{Row, ProbeWords, is_laid, is_out, bit, bare, no_row, hidden_row, aside_row, laid_row, put_at, lowered}
 use Rattle.steps.specs.Kept.{zeros_t, zeros_f}
 use Rattle.steps.specs.Layout.{lower_f, align_f}
-use Rattle.util.specs.declared.OptionF32.{OptionF32}
 use Rattle.steps.specs.declared.LayoutInput.{LayoutInput}
 use Rattle.steps.specs.declared.LayoutOutput.{LayoutOutput}
 use Rattle.whole.specs.Range.{zero_is}
@@ -48,7 +47,7 @@ abbrev pub Same : Row → RowZ → Type 0
 Same r z = RowIs 16777215 r z
 
 -- ---- bare rows
-bare_is : (k : ℕ) {n : ℕ} {p : Point} {q : PointZ} {x : Float} {a : ℤ} {m j : ℕ} → Holds p.x q.x → Near p.y q.y n → Holds x a → m ≡ j → RowIs n (bare p x m k) (bare_z q a j k)
+bare_is : (k : ℕ) {n : ℕ} {p : Point Float} {q : PointZ} {x : Float} {a : ℤ} {m j : ℕ} → Holds p.x q.x → Near p.y q.y n → Holds x a → m ≡ j → RowIs n (bare p x m k) (bare_z q a j k)
 unfolding bare bare_z z.no_probe_z
 bare_is k p q r e =
     record {
@@ -110,7 +109,7 @@ laid_row_is q o p u v t =
     }
 
 -- put at a place, and lowered
-pub put_is : {n m a : ℕ} {p : Point} {q : PointZ} {k j : ℕ} {r : Row} {z : RowZ} → PointIs a n p q → a ≤ 16777215 → k ≡ j → RowIs m r z → RowIs n (put_at p k r) (put_at_z q j z)
+pub put_is : {n m a : ℕ} {p : Point Float} {q : PointZ} {k j : ℕ} {r : Row} {z : RowZ} → PointIs a n p q → a ≤ 16777215 → k ≡ j → RowIs m r z → RowIs n (put_at p k r) (put_at_z q j z)
 unfolding put_at put_at_z
 put_is p u e r =
     record {
@@ -230,11 +229,11 @@ stay_f none (more t ts) n u p = p
 stay_f (more t ts) none n u p = p
 stay_f (more t ts) (more s ss) n u p = (stay_t t s n u p.0, stay_f ts ss n u p.1)
 
-pub align_f_lem : (ts : Forest Row) (us : Forest RowZ) (n m : ℕ) {d : OptionF32} {k : MayZ} → MayIs m d k → n + m ≤ 16777215 → RowsF n ts us → RelF Same (align_f d ts) (align_fz k us)
+pub align_f_lem : (ts : Forest Row) (us : Forest RowZ) (n m : ℕ) {d : Option Float} {k : MayZ} → MayIs m d k → n + m ≤ 16777215 → RowsF n ts us → RelF Same (align_f d ts) (align_fz k us)
 unfolding align_f align_fz
 align_f_lem ts us n m none_is u p = stay_f ts us n (omega arith) p
 align_f_lem ts us n m (some_is q) u p = lower_f_lem ts us n m _ _ q u p
 
-pub put_t : (t : Tree Row) (u : Tree RowZ) (n m a : ℕ) {p : Point} {q : PointZ} {k j : ℕ} → PointIs a n p q → a ≤ 16777215 → k ≡ j → RowsT m t u → RowsT n (on_root (put_at p k) t) (on_root (put_at_z q j) u)
+pub put_t : (t : Tree Row) (u : Tree RowZ) (n m a : ℕ) {p : Point Float} {q : PointZ} {k j : ℕ} → PointIs a n p q → a ≤ 16777215 → k ≡ j → RowsT m t u → RowsT n (on_root (put_at p k) t) (on_root (put_at_z q j) u)
 unfolding RowsT on_root
 put_t (node r ks) (node z us) n m a p u e h = (put_is p u e h.0, h.1)

@@ -1,9 +1,7 @@
 -- The size question of a page of the profile is answered as over whole numbers. Assumes nothing.
-use Rattle.std.specs.Prelude.{◌≡◌, ◌≤◌, ℤ, Float}
+use Rattle.std.specs.Prelude.{◌≡◌, ◌≤◌, ℤ, Float, Option}
 use Rattle.std.proofs.Common.{lit≤}
 use Rattle.geometry.specs.declared.Size.{Size}
-use Rattle.util.specs.declared.OptionF32.{OptionF32}
-use Rattle.util.specs.declared.OptionSize.{OptionSize}
 use Rattle.tree.specs.Tree.{Forest, node, map_f}
 use Rattle.tree.proofs.Laws.{map_t_node}
 use Rattle.steps.specs.Page.{Site}
@@ -22,7 +20,7 @@ use Rattle.exact.specs.Boxes.{SizeIs, BoxIs, both_down}
 use Rattle.exact.specs.Widths.{Holds}
 
 -- a size in both engines
-pub record SizeHolds (s : Size) (z : SizeZ) : Type 0 where
+pub record SizeHolds (s : Size Float) (z : SizeZ) : Type 0 where
   pub width : Holds s.width z.width
   pub height : Holds s.height z.height
 
@@ -30,26 +28,26 @@ axes_is : {w h : Float} {a b : ℤ} → Holds w a → Holds h b → SizeHolds (a
 unfolding axes axes_z
 axes_is p q = record { width = p; height = q }
 
-known_width_is : (a : RequestedAxis) {w : Float} {k : ℤ} {h : OptionF32} {b : MayZ} {r : Size} {s : SizeZ} → Holds w k → MayIs 16777215 h b → SizeHolds r s → SizeHolds (width_known a w h r) (width_known_z a k b s)
+known_width_is : (a : RequestedAxis) {w : Float} {k : ℤ} {h : Option Float} {b : MayZ} {r : Size Float} {s : SizeZ} → Holds w k → MayIs 16777215 h b → SizeHolds r s → SizeHolds (width_known a w h r) (width_known_z a k b s)
 unfolding width_known width_known_z
 known_width_is Horizontal p (some_is q) r = axes_is p q
 known_width_is Horizontal p none_is r = axes_is p zero_is
 known_width_is Both p (some_is q) r = axes_is p q
 known_width_is Both p none_is r = r
 
-pub step_c_is : (a : RequestedAxis) {o h : OptionF32} {b c : MayZ} {r : Size} {s : SizeZ} → MayIs 16777215 o b → MayIs 16777215 h c → SizeHolds r s → SizeHolds (step_c a o h r) (step_cz a b c s)
+pub step_c_is : (a : RequestedAxis) {o h : Option Float} {b c : MayZ} {r : Size Float} {s : SizeZ} → MayIs 16777215 o b → MayIs 16777215 h c → SizeHolds r s → SizeHolds (step_c a o h r) (step_cz a b c s)
 unfolding step_c step_cz
 step_c_is a (some_is p) q r = known_width_is a p q r
 step_c_is a none_is q r = r
 
-step_g_is : (a : RequestedAxis) {w p : Float} {k l : ℤ} {h : OptionF32} {c : MayZ} {r : Size} {s : SizeZ} → Holds w k → Holds p l → MayIs 16777215 h c → SizeHolds r s → SizeHolds (step_g a w p h r) (step_gz a k l c s)
+step_g_is : (a : RequestedAxis) {w p : Float} {k l : ℤ} {h : Option Float} {c : MayZ} {r : Size Float} {s : SizeZ} → Holds w k → Holds p l → MayIs 16777215 h c → SizeHolds r s → SizeHolds (step_g a w p h r) (step_gz a k l c s)
 unfolding step_g step_gz
 step_g_is Horizontal p q (some_is h) r = axes_is p (larger_is h q)
 step_g_is Horizontal p q none_is r = axes_is p zero_is
 step_g_is Both p q (some_is h) r = axes_is p (larger_is h q)
 step_g_is Both p q none_is r = r
 
-pub size_below_is : (a : RequestedAxis) {z : Sizing} {b : BoxZ} {o : OptionSize} {c : SizeMay} {x : Float} {k : ℤ} {r : Size} {s : SizeZ} → BoxIs z b → SizeIs o c 267264 5120 → Near x k 267264 → SizeHolds r s → SizeHolds (size_below a z o x r) (size_below_z a b c k s)
+pub size_below_is : (a : RequestedAxis) {z : Sizing} {b : BoxZ} {o : Size (Option Float)} {c : SizeMay} {x : Float} {k : ℤ} {r : Size Float} {s : SizeZ} → BoxIs z b → SizeIs o c 267264 5120 → Near x k 267264 → SizeHolds r s → SizeHolds (size_below a z o x r) (size_below_z a b c k s)
 unfolding size_below size_below_z
 size_below_is a p q x r = step_g_is a (wide (unwrap_is q.width x) (lit≤ tt)) (wide (both_down p.both) (lit≤ tt)) (wide_may q.height (lit≤ tt)) r
 

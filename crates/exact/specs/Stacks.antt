@@ -1,11 +1,10 @@
 -- Step J for one child, on a page of the profile: its place, and the cursor past it. Assumes nothing.
 -- K nodes are stacked so far, D levels lie below: y stays within 2048 + 7168 K, and y with the first baseline within 7168 + 14336 K + 7168 D.
-use Rattle.std.specs.Prelude.{◌≡◌, refl, Bool, true, false, cond, ◌&&◌, ℕ, ◌+◌, ◌-◌, ◌*◌, ◌^◌, ◌≤◌, ℤ, pos, ◌+ℤ◌, ◌-ℤ◌, Float}
+use Rattle.std.specs.Option.{option_or}
+use Rattle.std.specs.Prelude.{◌≡◌, refl, Bool, true, false, cond, ◌&&◌, ℕ, ◌+◌, ◌-◌, ◌*◌, ◌^◌, ◌≤◌, ℤ, pos, ◌+ℤ◌, ◌-ℤ◌, Float, Option}
 use Rattle.std.proofs.Common.{sym, ap, ◌∙◌, arith, lit≤}
 use Rattle.std.proofs.Math.IntN.{+ℤ_comm, +ℤ_idr, +ℤ_invr}
 use Rattle.geometry.specs.Floats.{◌⊖◌}
-use Rattle.util.specs.Maybe.{or_else}
-use Rattle.util.specs.declared.OptionF32.{OptionF32}
 use Rattle.margin.specs.declared.CollapsibleMarginSet.{CollapsibleMarginSet}
 use Rattle.steps.specs.Baseline.{at_place, baseline_past}
 use Rattle.steps.specs.Stack.{start_of, top_margins, bottom_margins, at_top, gap_of, free_of, share_of, place_x, place_y, place_of, past_through, past_box, stepped, line_of, past_aside, past_hidden}
@@ -171,18 +170,18 @@ unfolding place_of place_of_z
 place_filled p q r s u v e = record { x = place_x_filled p r s.width u e; y = place_y_is p q r s v }
 
 -- ---- the first baseline
-at_place_is : {n l m : ℕ} {y : Float} {k : ℤ} {o : OptionF32} {a : MayZ} → Near y k n → MayIs l o a → n + l ≤ m → m ≤ 2 ^ 24 → MayIs m (at_place y o) (at_place_z k a)
+at_place_is : {n l m : ℕ} {y : Float} {k : ℤ} {o : Option Float} {a : MayZ} → Near y k n → MayIs l o a → n + l ≤ m → m ≤ 2 ^ 24 → MayIs m (at_place y o) (at_place_z k a)
 unfolding at_place at_place_z
 at_place_is p none_is u v = none_is
 at_place_is p (some_is q) u v = some_is (wide (plus_is p q (omega arith)) u)
 
-baseline_is : {n l m r : ℕ} {y : Float} {k : ℤ} {o b : OptionF32} {a c : MayZ} → MayIs r b c → Near y k n → MayIs l o a → r ≤ m → n + l ≤ m → m ≤ 2 ^ 24 → MayIs m (baseline_past b y o) (baseline_past_z c k a)
-unfolding baseline_past baseline_past_z or_else or_else_z
+baseline_is : {n l m r : ℕ} {y : Float} {k : ℤ} {o b : Option Float} {a c : MayZ} → MayIs r b c → Near y k n → MayIs l o a → r ≤ m → n + l ≤ m → m ≤ 2 ^ 24 → MayIs m (baseline_past b y o) (baseline_past_z c k a)
+unfolding baseline_past baseline_past_z or_else_z
 baseline_is none_is p q t u v = at_place_is p q u v
 baseline_is (some_is x) p q t u v = some_is (wide x t)
 
 -- ---- the cursor past a child
-through_is : {n l r m : ℕ} {c : Cursor} {z : CursorZ} {t b : CollapsibleMarginSet} {u d : SetZ} {o : OptionF32} {a : MayZ} → CursorIs n l c z → SetIs t u → SetIs b d → MayIs m o a → n ≤ r → CursorIs r m (past_through c t b o) (past_through_z z u d a)
+through_is : {n l r m : ℕ} {c : Cursor} {z : CursorZ} {t b : CollapsibleMarginSet} {u d : SetZ} {o : Option Float} {a : MayZ} → CursorIs n l c z → SetIs t u → SetIs b d → MayIs m o a → n ≤ r → CursorIs r m (past_through c t b o) (past_through_z z u d a)
 unfolding past_through past_through_z
 through_is p q s o v =
     record {
@@ -196,7 +195,7 @@ through_is p q s o v =
       count = ap (λ (k : ℕ). k + 1) p.count;
     }
 
-box_past_is : {w n l m h : ℕ} {f : Frame} {g : FrameZ} {c : Cursor} {z : CursorZ} {t b : CollapsibleMarginSet} {u d : SetZ} {x : Float} {k : ℤ} {o : OptionF32} {a : MayZ} → FrameIs w f g → CursorIs n l c z → SetIs t u → SetIs b d → Near x k h → MayIs m o a → n + 1024 + h ≤ 2 ^ 24
+box_past_is : {w n l m h : ℕ} {f : Frame} {g : FrameZ} {c : Cursor} {z : CursorZ} {t b : CollapsibleMarginSet} {u d : SetZ} {x : Float} {k : ℤ} {o : Option Float} {a : MayZ} → FrameIs w f g → CursorIs n l c z → SetIs t u → SetIs b d → Near x k h → MayIs m o a → n + 1024 + h ≤ 2 ^ 24
     → CursorIs (n + 1024 + h) m (past_box f c t b x o) (past_box_z g z u d k a)
 unfolding past_box past_box_z
 box_past_is e p q s r o v =

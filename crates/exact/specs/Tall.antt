@@ -1,10 +1,8 @@
 -- A number that is short, or is one number c: what larger, smaller and clamp with short numbers keep. Differences in which a part falls out. Assumes nothing.
-use Rattle.std.specs.Prelude.{◌≡◌, Bool, true, false, cond, ℕ, ℤ, neg_ℤ, ◌+ℤ◌, ◌-ℤ◌, Float}
+use Rattle.std.specs.Prelude.{◌≡◌, Bool, true, false, cond, ℕ, ℤ, neg_ℤ, ◌+ℤ◌, ◌-ℤ◌, Float, Option, unwrap_or}
 use Rattle.std.proofs.Common.{sym, ap, ◌∙◌}
 use Rattle.std.proofs.Math.IntN.{neg_ℤ-neg_ℤ, neg_ℤ-+ℤ, +ℤ_assoc, +ℤ_comm, +ℤ-neg_ℤ_cancel, +ℤ_invr, +ℤ_idl}
 use Rattle.util.specs.Math.{larger, smaller, capped, floored, clamped}
-use Rattle.util.specs.Maybe.{unwrap_or}
-use Rattle.util.specs.declared.OptionF32.{OptionF32}
 use Rattle.whole.specs.Range.{within_lt}
 use Rattle.whole.specs.More.{max_z, min_z}
 use Rattle.integers.specs.Numbers.{MayZ, unwrap_or_z, capped_z, floored_z, clamped_z}
@@ -32,22 +30,22 @@ unfolding smaller
 tall_smaller (short p) q = tall_test (within_lt q p) (short q) (short p)
 tall_smaller (same p e) q = tall_test (within_lt q p) (short q) (same p e)
 
-tall_capped : {n : ℕ} {c : ℤ} {x : Float} {a : ℤ} {o : OptionF32} {m : MayZ} → Tall n c x a → MayIs 5120 o m → Tall n c (capped x o) (capped_z a m)
+tall_capped : {n : ℕ} {c : ℤ} {x : Float} {a : ℤ} {o : Option Float} {m : MayZ} → Tall n c x a → MayIs 5120 o m → Tall n c (capped x o) (capped_z a m)
 unfolding capped capped_z
 tall_capped p none_is = p
 tall_capped p (some_is q) = tall_smaller p q
 
-tall_floored : {n : ℕ} {c : ℤ} {x : Float} {a : ℤ} {o : OptionF32} {m : MayZ} → Tall n c x a → MayIs 5120 o m → Tall n c (floored x o) (floored_z a m)
+tall_floored : {n : ℕ} {c : ℤ} {x : Float} {a : ℤ} {o : Option Float} {m : MayZ} → Tall n c x a → MayIs 5120 o m → Tall n c (floored x o) (floored_z a m)
 unfolding floored floored_z
 tall_floored p none_is = p
 tall_floored p (some_is q) = tall_larger p q
 
-pub tall_clamped : {n : ℕ} {c : ℤ} {x : Float} {a : ℤ} {lo hi : OptionF32} {l h : MayZ} → Tall n c x a → MayIs 5120 lo l → MayIs 5120 hi h → Tall n c (clamped x lo hi) (clamped_z a l h)
+pub tall_clamped : {n : ℕ} {c : ℤ} {x : Float} {a : ℤ} {lo hi : Option Float} {l h : MayZ} → Tall n c x a → MayIs 5120 lo l → MayIs 5120 hi h → Tall n c (clamped x lo hi) (clamped_z a l h)
 unfolding clamped clamped_z
 tall_clamped p q r = tall_floored (tall_capped p r) q
 
-pub tall_unwrap : {n : ℕ} {c : ℤ} {x : Float} {a : ℤ} {o : OptionF32} {m : MayZ} → MayIs 5120 o m → Tall n c x a → Tall n c (unwrap_or o x) (unwrap_or_z m a)
-unfolding unwrap_or unwrap_or_z
+pub tall_unwrap : {n : ℕ} {c : ℤ} {x : Float} {a : ℤ} {o : Option Float} {m : MayZ} → MayIs 5120 o m → Tall n c x a → Tall n c (unwrap_or o x) (unwrap_or_z m a)
+unfolding unwrap_or_z
 tall_unwrap none_is p = p
 tall_unwrap (some_is q) p = short q
 

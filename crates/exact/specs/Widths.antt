@@ -1,9 +1,7 @@
 -- Step F on a page of the profile: the width pass is that over whole numbers. Assumes nothing.
-use Rattle.std.specs.Prelude.{◌≡◌, refl, ℕ, ◌+◌, ◌*◌, ◌^◌, ◌≤◌, ℤ, Float}
+use Rattle.std.specs.Prelude.{◌≡◌, refl, ℕ, ◌+◌, ◌*◌, ◌^◌, ◌≤◌, ℤ, Float, Option, Some}
 use Rattle.std.proofs.Common.{arith, lit≤}
 use Rattle.util.specs.Math.{capped, floored, clamped}
-use Rattle.util.specs.declared.OptionF32.{OptionF32}
-use Rattle.util.specs.declared.OptionF32.TheVariants.{Some}
 use Rattle.length.specs.Available.{available_less, definite}
 use Rattle.length.specs.declared.AvailableSpace.{AvailableSpace}
 use Rattle.length.specs.declared.AvailableSpace.TheVariants.{Definite, MinContent, MaxContent}
@@ -73,7 +71,7 @@ pub outer_of_is : {z : Sizing} {k : BoxZ} {m x : Float} {j l : ℤ} {n : ℕ} �
 unfolding outer_of outer_of_z
 outer_of_is p q r u v = plus_is (larger_is r (wide (both_across p.both) u)) q v
 
-want_by_is : {z : Sizing} {k : BoxZ} {m : Float} {j : ℤ} {n : ℕ} {a : AvailableSpace} {b : AvailableZ} {o : OptionF32} {c : MayZ} → BoxIs z k → Near m j 2048 → AvailableIs n a b → n + 2048 ≤ 2 ^ 24 → MayIs 5120 o c
+want_by_is : {z : Sizing} {k : BoxZ} {m : Float} {j : ℤ} {n : ℕ} {a : AvailableSpace} {b : AvailableZ} {o : Option Float} {c : MayZ} → BoxIs z k → Near m j 2048 → AvailableIs n a b → n + 2048 ≤ 2 ^ 24 → MayIs 5120 o c
     → WantIs (n + 2048) (want_by z m a o) (want_by_z k j b c)
 unfolding want_by want_by_z
 want_by_is p q r u none_is = probe_is (record { height = clamp_opt_is p.size.height p.min.height p.max.height; available = less_is r q u })

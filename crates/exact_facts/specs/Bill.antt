@@ -1,10 +1,9 @@
 -- A bill in whole pixels, 14 nodes: title, two lines of what and amount, a chart, a sum with a total that is moved up and a stamp out of flow, the day it is due.
 -- It is of the profile, and both engines give the same boxes; all computed.
-use Rattle.std.specs.Prelude.{◌≡◌, refl, false, List, [], ◌∷◌, map, ℕ, replicate, ℤ, pos, Float}
+use Rattle.std.specs.Prelude.{◌≡◌, refl, false, List, [], ◌∷◌, map, ℕ, replicate, ℤ, pos, Float, None, Some, Ok}
 use Rattle.std.specs.Float.Ieee.{of_bits}
 use Rattle.std.specs.Float.{binary32}
 use Rattle.geometry.specs.Geometry.{zero_f}
-use Rattle.util.specs.declared.OptionF32.TheVariants.{None, Some}
 use Rattle.length.specs.declared.AvailableSpace.TheVariants.{MaxContent}
 use Rattle.tree.specs.Tree.{flat_t}
 use Rattle.steps.specs.Row.{Row}
@@ -13,8 +12,6 @@ use Rattle.steps.specs.Question.{root_input}
 use Rattle.steps.specs.Layout.{fresh}
 use Rattle.steps.specs.Noes.{layout_tested}
 use Rattle.steps.specs.declared.LayoutInput.{LayoutInput}
-use Rattle.steps.specs.declared.Tested.TheVariants.{Pass}
-use Rattle.steps.specs.declared.Spot.TheVariants.{Nowhere}
 use Rattle.steps.proofs.Computed.{steps, calls}
 use Rattle.facts.specs.Pages.{Given, given, numbers_of}
 use Rattle.whole.specs.Test.{number}
@@ -94,7 +91,7 @@ abbrev pub box_of_z : ℕ → RowZ → List ℤ
 box_of_z n r = r.place.x ∷ r.place.y ∷ r.size.width ∷ r.size.height ∷ []
 
 -- the bill is of the profile
-pub bill_in_profile : profile_spot bill_words bill_numbers bill_question ≡ Nowhere
+pub bill_in_profile : profile_spot bill_words bill_numbers bill_question ≡ None
 unfolding calls profile_spot else_at outside of_profile profile_style whole_sizes whole_sides plain_style bill_words bill_given bill_numbers bill_question numbers_of root_input
 bill_in_profile = refl
 
@@ -114,6 +111,6 @@ unfolding steps wholes style_z input_z page_z bill_words bill_given bill_numbers
 bill_stamp = refl
 
 -- A layout of it that is lent one record passes the tests, so the theorem speaks of this page.
-pub bill_tested : layout_tested bill_words bill_numbers (replicate 224 zero_f) (replicate 28 0) (replicate 2 0) (replicate 3 zero_f) bill_question ≡ Pass
+pub bill_tested : layout_tested bill_words bill_numbers (replicate 224 zero_f) (replicate 28 0) (replicate 2 0) (replicate 3 zero_f) bill_question ≡ Ok tt
 unfolding calls bill_words bill_given bill_numbers bill_question numbers_of root_input
 bill_tested = refl

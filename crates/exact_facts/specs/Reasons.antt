@@ -1,14 +1,11 @@
 -- The list of the profile, reason by reason, on a page of a root and a leaf; and what looks like a reason and is none. All computed.
-use Rattle.std.specs.Prelude.{◌≡◌, refl, false, List, [], ◌∷◌, map, ℕ, replicate}
+use Rattle.std.specs.Prelude.{◌≡◌, refl, false, List, [], ◌∷◌, map, ℕ, replicate, Option, None, Some}
 use Rattle.std.specs.Float.Ieee.{of_bits}
 use Rattle.std.specs.Float.{binary32}
 use Rattle.geometry.specs.Geometry.{zero_f}
-use Rattle.util.specs.declared.OptionF32.TheVariants.{None}
 use Rattle.length.specs.declared.AvailableSpace.TheVariants.{MaxContent}
 use Rattle.steps.specs.Question.{root_input}
 use Rattle.steps.specs.declared.LayoutInput.{LayoutInput}
-use Rattle.steps.specs.declared.Spot.{Spot}
-use Rattle.steps.specs.declared.Spot.TheVariants.{Nowhere, At}
 use Rattle.steps.proofs.Computed.{calls}
 use Rattle.facts.specs.Pages.{Given, given, numbers_of}
 use Rattle.profile.specs.Profile.{whole_sizes, whole_sides, plain_style, profile_style, of_profile, outside, else_at, profile_spot}
@@ -26,7 +23,7 @@ unfoldable pub asking : ℕ → LayoutInput
 asking b =
     root_input (record { known = record { width = None; height = None }; parent = of_bits binary32 b; definiteHeight = false; available = MaxContent; collapseStart = false; collapseEnd = false })
 
-unfoldable pub spot_of : Page → Spot
+unfoldable pub spot_of : Page → Option ℕ
 spot_of p =
     profile_spot (2 ∷ p.root ∷ p.root_units ∷ 0x55 ∷ 1 ∷ p.leaf ∷ p.leaf_units ∷ 0x55 ∷ []) (numbers_of p.numbers (replicate 56 zero_f)) (asking p.parent)
 
@@ -65,7 +62,7 @@ pub reasons :
     ∷ united 0x551_1000 []
     ∷ record { root = 0; root_units = pixels; leaf = 1; leaf_units = pixels; numbers = []; parent = half }
     ∷ [])
-    ≡ At 1 ∷ At 1 ∷ At 1 ∷ At 0 ∷ At 1 ∷ At 0 ∷ At 1 ∷ At 0 ∷ At 1 ∷ At 0 ∷ At 0 ∷ At 0 ∷ At 1 ∷ At 2 ∷ []
+    ≡ Some 1 ∷ Some 1 ∷ Some 1 ∷ Some 0 ∷ Some 1 ∷ Some 0 ∷ Some 1 ∷ Some 0 ∷ Some 1 ∷ Some 0 ∷ Some 0 ∷ Some 0 ∷ Some 1 ∷ Some 2 ∷ []
 unfolding calls profile_spot else_at outside of_profile profile_style whole_sizes whole_sides plain_style numbers_of root_input asking spot_of
 reasons = refl
 
@@ -82,6 +79,6 @@ pub no_reasons :
     ∷ styled 0xc00
     ∷ styled 0x2_0c00
     ∷ [])
-    ≡ replicate 9 Nowhere
+    ≡ replicate 9 None
 unfolding calls profile_spot else_at outside of_profile profile_style whole_sizes whole_sides plain_style numbers_of root_input asking spot_of
 no_reasons = refl

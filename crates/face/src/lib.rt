@@ -1,13 +1,13 @@
 // The public calls: plain numbers and slices in, one word of two halves out. face_c exports them for C.
 #![tactic(auto)]
 
-ghost use Rattle.std.specs.Prelude.{◌≡◌};
+ghost use Rattle.std.specs.Prelude.{◌≡◌, List, [], ◌∷◌, ℕ, Ok};
 ghost use Rattle.steps.specs.Question.{root_input};
 ghost use Rattle.steps.specs.Row.{bit};
 ghost use Rattle.steps.specs.Results.{layout_result, relayout_result, size_result};
 ghost use Rattle.asked.specs.Question.{plain_question, axis_of, as_profile};
 ghost use Rattle.asked.specs.Halves.{Halves};
-ghost use Rattle.face.specs.Answered.{IndexAnswered, Scrolled, CoarseAnswered};
+ghost use Rattle.face.specs.Answered.{IndexAnswered, Scrolled, found_in, CoarseAnswered};
 ghost use Rattle.face.specs.AsProfile.{AnsweredAs, SizedAs, SizedProfile};
 ghost use Rattle.index.specs.Index.{index_result};
 ghost use Rattle.scroll.specs.Scroll.{scroll_answer};
@@ -18,9 +18,7 @@ ghost use Rattle.profiled.specs.Profiled.{profile_paper, yes_or_no, profiled_lay
 use asked::{
     as_profile, axis, halves, packed, packed_coarse, packed_index, packed_profile, question,
 };
-use profiled::ProfileSize;
-use scroll::ScrollAnswer;
-use steps::{Answer, Question, RequestedAxis, SizeAnswer};
+use steps::{Question, RequestedAxis};
 
 // A fresh layout of a page.
 pub fn mearrasot_layout(
@@ -85,13 +83,13 @@ fn size_as_profile(
 {
     let a = profiled::size_profiled(words, numbers, q, axis);
     match a {
-        ProfileSize::Sized(s) => {
+        Ok(s) => {
             *out = [s.width, s.height];
             halves(0, 0)
         }
-        ProfileSize::Refused(no) => {
+        Err(no) => {
             *out = [0.0, 0.0];
-            packed_profile(no)
+            packed_profile(Err(no))
         }
     }
 }
@@ -115,13 +113,13 @@ pub fn mearrasot_size(
     }
     let a = measure::size_question(words, numbers, q, axis(how));
     match a {
-        SizeAnswer::Sized(s) => {
+        Ok(s) => {
             *size = [s.width, s.height];
-            packed(Answer::Done(0))
+            packed(Ok(0))
         }
-        SizeAnswer::Refused(no) => {
+        Err(no) => {
             *size = [0.0, 0.0];
-            packed(no)
+            packed(Err(no))
         }
     }
 }
@@ -142,21 +140,28 @@ pub fn mearrasot_index(
     packed_index(a)
 }
 
+// A position as a word: all ones if there is none.
+#[tactic(auto, unfolding(crate::specs::Answered::found_in))]
+fn place_word(place: Option<usize>) -> u64
+    ensures { (lent : List ℕ) → result ∷ [] ≡ found_in (Ok place) lent }
+{
+    match place {
+        Some(k) => k as u64,
+        None => 0xffff_ffff_ffff_ffff,
+    }
+}
+
 // The first position of the index whose bottom is a greater number than y, written to `found`: all ones if there is none.
 pub fn mearrasot_scroll(running: &[f32], y: f32, found: &mut [u64; 1]) -> u64
     ensures { Scrolled (scroll_answer running.now y) found.old result found.new }
 {
     let a = scroll::scroll(running, y);
     match a {
-        ScrollAnswer::First(k) => {
-            *found = [k as u64];
+        Ok(place) => {
+            *found = [place_word(place)];
             halves(0, 0)
         }
-        ScrollAnswer::Nothing => {
-            *found = [0xffff_ffff_ffff_ffff];
-            halves(0, 0)
-        }
-        ScrollAnswer::NotFinite => halves(10, 0),
+        Err(_) => halves(10, 0),
     }
 }
 

@@ -1,10 +1,8 @@
 -- Percent heights on small pages, through the result of a layout, as one table that is computed.
-use Rattle.std.specs.Prelude.{◌≡◌, refl, Bool, true, false, List, [], ◌∷◌, map, ℕ, ◌*◌, replicate}
+use Rattle.std.specs.Prelude.{◌≡◌, refl, Bool, true, false, List, [], ◌∷◌, map, ℕ, ◌*◌, replicate, Option, None, Some, Float}
 use Rattle.std.specs.Float.Ieee.{of_bits}
 use Rattle.std.specs.Float.{binary32}
 use Rattle.geometry.specs.Geometry.{zero_f}
-use Rattle.util.specs.declared.OptionF32.{OptionF32}
-use Rattle.util.specs.declared.OptionF32.TheVariants.{None, Some}
 use Rattle.length.specs.declared.AvailableSpace.TheVariants.{MaxContent}
 use Rattle.steps.specs.Page.{nodes_in}
 use Rattle.steps.specs.Question.{root_input}
@@ -18,7 +16,7 @@ use Rattle.facts.specs.Pages.{Given, given, numbers_of, read_at, block, leaf, he
 pub record HeightPage : Type 0 where
   pub words : List ℕ
   pub numbers : List Given
-  pub known : OptionF32
+  pub known : Option Float
   pub definite : Bool
   pub read : List ℕ
   pub expected : List ℕ

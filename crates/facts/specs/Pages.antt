@@ -1,12 +1,10 @@
 -- The checked pages (1) to (8) of document 01, through the results of the public calls, as one table that is computed.
-use Rattle.std.specs.Prelude.{◌≡◌, refl, Bool, true, false, List, [], ◌∷◌, map, ℕ, ◌+◌, ◌*◌, get_or, set, replicate, Float}
+use Rattle.std.specs.Prelude.{◌≡◌, refl, Bool, true, false, List, [], ◌∷◌, map, ℕ, ◌+◌, ◌*◌, get_or, set, replicate, Float, Option, None, Some}
 use Rattle.std.specs.Float.Ieee.{of_bits, to_bits}
 use Rattle.std.specs.Float.{binary32}
 use Rattle.geometry.specs.Geometry.{zero_f}
 use Rattle.geometry.specs.declared.Size.{Size}
 use Rattle.style.specs.Style.{plane_of, number_place}
-use Rattle.util.specs.declared.OptionF32.{OptionF32}
-use Rattle.util.specs.declared.OptionF32.TheVariants.{None, Some}
 use Rattle.length.specs.declared.AvailableSpace.TheVariants.{MaxContent}
 use Rattle.steps.specs.Page.{nodes_in}
 use Rattle.steps.specs.Question.{root_input}
@@ -36,7 +34,7 @@ pub record Checked : Type 0 where
   pub words : List ℕ
   pub numbers : List Given
   pub parent : ℕ
-  pub width : OptionF32
+  pub width : Option Float
   pub flags : Bool
   pub asked : Asked
   pub expected : List ℕ
@@ -64,7 +62,7 @@ read_at l (k ∷ ks) = to_bits binary32 (get_or l k zero_f) ∷ read_at l ks
 unfoldable pub read_rows : Reply → List ℕ → List ℕ
 read_rows r ks = (paper r.answer).0 ∷ read_at r.rows ks
 
-unfoldable pub read_size : (ℕ × ℕ) × Size → List ℕ
+unfoldable pub read_size : (ℕ × ℕ) × Size Float → List ℕ
 read_size s = s.0.0 ∷ to_bits binary32 s.1.width ∷ to_bits binary32 s.1.height ∷ []
 
 -- tables of the right lengths, rows and marks of zeros, no record
@@ -138,7 +136,7 @@ px200 = 0x4348_0000
 abbrev pub minus : ℕ → ℕ
 minus b = 0x8000_0000 + b
 
-abbrev hundred : OptionF32
+abbrev hundred : Option Float
 hundred = Some (of_bits binary32 px100)
 
 -- ---- the pages

@@ -1,9 +1,8 @@
 -- A half-width box in a page that shrinks to fit, through the result of a layout, computed: as auto for the page's width, then a half of the width found.
-use Rattle.std.specs.Prelude.{◌≡◌, refl, false, List, [], ◌∷◌, ℕ, ◌*◌, replicate, Float}
+use Rattle.std.specs.Prelude.{◌≡◌, refl, false, List, [], ◌∷◌, ℕ, ◌*◌, replicate, Float, None}
 use Rattle.std.specs.Float.Ieee.{of_bits}
 use Rattle.std.specs.Float.{binary32}
 use Rattle.geometry.specs.Geometry.{zero_f}
-use Rattle.util.specs.declared.OptionF32.TheVariants.{None}
 use Rattle.length.specs.declared.AvailableSpace.TheVariants.{Definite}
 use Rattle.steps.specs.Page.{nodes_in}
 use Rattle.steps.specs.Question.{root_input}

@@ -5,52 +5,40 @@ ghost use Rattle.std.specs.Prelude.{◌≡◌, not, List, ◌<◌, ◌≤◌, le
 ghost use Rattle.style.specs.Flow.{is_in};
 ghost use Rattle.style.specs.Style.{plane_of, style_at};
 ghost use Rattle.style.specs.declared.Style.{Style};
-ghost use Rattle.reader.specs.Reader.{Reads, style_in};
+ghost use Rattle.reader.specs.Reader.{style_in, style_of};
 ghost use Rattle.steps.specs.Context.{clips, is_normal, new_context, plain_block};
 ghost use Rattle.steps.specs.Through.{open_box, hollow_box};
 ghost use Rattle.steps.specs.HeightBasis.{definite_of, basis_below};
 ghost use Rattle.steps.specs.Edges.{adjoins, own_end_of, step_i, frame_of};
 
-use geometry::Rect;
+use geometry::{Rect, Size};
 use reader::Reader;
 use steps::{Frame, LayoutInput, Sizing};
 use style::{AlignContent, Flow, Overflow};
-use util::{OptionF32, OptionSize};
+use util::MaybeMath;
 
+#[tactic(auto, unfolding(steps::specs::Context::clips))]
 fn is_scroll_container(o: Overflow) -> bool
     ensures { result ≡ clips o }
 {
-    match o {
-        Overflow::Visible => false,
-        Overflow::Clip => false,
-        Overflow::Hidden => true,
-        Overflow::Scroll => true,
-    }
+    matches!(o, Overflow::Hidden | Overflow::Scroll)
 }
 
+#[tactic(auto, unfolding(steps::specs::Context::is_normal))]
 fn is_align_normal(a: AlignContent) -> bool
     ensures { result ≡ is_normal a }
 {
-    match a {
-        AlignContent::Normal => true,
-        AlignContent::Start => false,
-        AlignContent::Center => false,
-        AlignContent::End => false,
-        AlignContent::SpaceBetween => false,
-        AlignContent::SpaceAround => false,
-        AlignContent::SpaceEvenly => false,
-        AlignContent::Stretch => false,
-    }
+    matches!(a, AlignContent::Normal)
 }
 
 // Step I: a new context. The style word tells.
-fn establishes_new_bfc(r: Reader) -> bool
-    ensures { (xs : List Float) → result ≡ new_context (style_in r xs) }
+fn establishes_new_bfc(style: u32) -> bool
+    ensures { (r : Reader) (xs : List Float) → r.style ≡ style → result ≡ new_context (style_in r xs) }
 {
-    let o = style::overflow_of(r.style);
+    let o = style::overflow_of(style);
     let ox = o.x;
     let oy = o.y;
-    let align = style::align_of(r.style);
+    let align = style::align_of(style);
     if is_scroll_container(ox) {
         return true;
     }
@@ -58,31 +46,28 @@ fn establishes_new_bfc(r: Reader) -> bool
         return true;
     }
     if is_align_normal(align) {
-        return style::flag(r.style, style::CONTAINED);
+        return style::flag(style, style::CONTAINED);
     }
     true
 }
 
+#[tactic(auto, unfolding(style::specs::Flow::is_in))]
 fn is_in(f: Flow) -> bool
     ensures { result ≡ is_in f }
 {
-    match f {
-        Flow::Gone => false,
-        Flow::Out => false,
-        Flow::In => true,
-    }
+    matches!(f, Flow::In)
 }
 
-// Step I: an in-flow block without new context.
-pub fn is_in_same_bfc(r: Reader) -> bool
-    ensures { (xs : List Float) → result ≡ plain_block (style_in r xs) }
+// Step I: an in-flow block without new context. The style word tells, whoever reads it.
+pub fn is_in_same_bfc(style: u32) -> bool
+    ensures { (r : Reader) (xs : List Float) → r.style ≡ style → result ≡ plain_block (style_in r xs) }
 {
-    let kind = style::kind_of(r.style);
-    if is_in(style::flow_at(r.style)) {
+    let kind = style::kind_of(style);
+    if is_in(style::flow_at(style)) {
         if style::is_leaf(kind) {
             return false;
         }
-        return !establishes_new_bfc(r);
+        return !establishes_new_bfc(style);
     }
     false
 }
@@ -102,7 +87,7 @@ fn children_margins_adjoin_own_edge(plain: bool, flag: bool, padding: f32, borde
 }
 
 // A padding or a border above 0, over the content or under it.
-fn has_vertical_edges(padding: Rect, border: Rect) -> bool
+fn has_vertical_edges(padding: Rect<f32>, border: Rect<f32>) -> bool
     ensures { not result ≡ open_box padding border }
 {
     if 0.0 < padding.top {
@@ -121,8 +106,8 @@ fn has_vertical_edges(padding: Rect, border: Rect) -> bool
 fn has_styles_preventing_being_collapsed_through(
     plain: bool,
     nested: bool,
-    padding: Rect,
-    border: Rect,
+    padding: Rect<f32>,
+    border: Rect<f32>,
 ) -> bool
     ensures { (s : Style) → plain_block s ≡ plain → not result ≡ hollow_box s nested padding border }
 {
@@ -140,7 +125,7 @@ fn own_end_margins_collapse_with_children(
     flag: bool,
     padding: f32,
     border: f32,
-    height: OptionF32,
+    height: Option<f32>,
 ) -> bool
     ensures { (s : Style) → plain_block s ≡ plain → result ≡ own_end_of s flag padding border height }
 {
@@ -151,7 +136,7 @@ fn own_end_margins_collapse_with_children(
 }
 
 // A known height that was not asked is definite, and one that is called so.
-fn definite_of(q: LayoutInput, height: OptionF32) -> OptionF32
+fn definite_of(q: LayoutInput, height: Option<f32>) -> Option<f32>
     ensures { result ≡ definite_of q height }
 {
     let asked = q.known;
@@ -160,29 +145,21 @@ fn definite_of(q: LayoutInput, height: OptionF32) -> OptionF32
         if q.definiteHeight {
             return height;
         }
-        return OptionF32::None;
+        return None;
     }
     height
 }
 
 // What a fraction of a child's height is a part of.
-fn basis_below(q: LayoutInput, known: OptionSize, inset: Rect) -> OptionF32
+fn basis_below(q: LayoutInput, known: Size<Option<f32>>, inset: Rect<f32>) -> Option<f32>
     ensures { result ≡ basis_below q known inset }
 {
     let height = known.height;
     definite_of(q, height).maybe_sub(inset.vertical_axis_sum())
 }
 
-fn framed_by(
-    r: Reader,
-    numbers: &[f32],
-    q: LayoutInput,
-    z: Sizing,
-    known: OptionSize,
-    width: f32,
-) -> Frame
-    requires { Reads r numbers.now }
-    ensures { result ≡ step_i (style_in r numbers.now) q z known width }
+fn framed_by(r: Reader, q: LayoutInput, z: Sizing, known: Size<Option<f32>>, width: f32) -> Frame
+    ensures { result ≡ step_i (style_of r.entry) q z known width }
 {
     let padding = z.padding;
     let border = z.border;
@@ -194,8 +171,8 @@ fn framed_by(
     let sh = size.height;
     let lo = min.height;
     let hi = max.height;
-    let plain = is_in_same_bfc(r);
-    let inset = sizing::content_box_inset(r, numbers, both);
+    let plain = is_in_same_bfc(r.style);
+    let inset = sizing::content_box_inset(r, both);
     let prevented = has_styles_preventing_being_collapsed_through(plain, q.nested, padding, border);
     Frame {
         width,
@@ -219,17 +196,16 @@ fn framed_by(
 }
 
 // Steps A, B, D, E and I.
-fn frame_of(r: Reader, numbers: &[f32], q: LayoutInput, found: f32) -> Frame
-    requires { Reads r numbers.now }
-    ensures { result ≡ frame_of (style_in r numbers.now) q found }
+fn frame_of(r: Reader, q: LayoutInput, found: f32) -> Frame
+    ensures { result ≡ frame_of (style_of r.entry) q found }
 {
     let parent = q.parent;
     let asked = q.known;
     let basis = q.basis;
-    let z = sizing::sizing_of(r, numbers, parent, basis);
-    let known = sizing::known_dimensions(reader::ratio(r, numbers), z, asked);
+    let z = sizing::sizing_of(r, parent, basis);
+    let known = sizing::known_dimensions(r.ratio(), z, asked);
     let w = known.width;
-    framed_by(r, numbers, q, z, known, w.unwrap_or(found))
+    framed_by(r, q, z, known, w.unwrap_or(found))
 }
 
 // The frame of the first node here, whose style is read part by part.
@@ -237,5 +213,5 @@ pub fn frame_at(words: &[u32], numbers: &[f32], base: usize, q: LayoutInput, fou
     requires { (4 ≤ length words.now) × (base < plane_of numbers.now) }
     ensures { result ≡ frame_of (style_at words.now 0 numbers.now base) q found }
 {
-    frame_of(reader::reader_at(words, numbers, base), numbers, q, found)
+    frame_of(Reader::at(words, numbers, base), q, found)
 }

@@ -11,19 +11,19 @@ abbrev pub zero_f : Float
 zero_f = of_bits binary32 0
 
 -- left + right
-abbrev pub across : Rect → Float
+abbrev pub across : Rect Float → Float
 across r = r.left ⊕ r.right
 
 -- top + bottom
-abbrev pub down : Rect → Float
+abbrev pub down : Rect Float → Float
 down r = r.top ⊕ r.bottom
 
 -- both sums
-unfoldable pub sum_axes : Rect → Size
+unfoldable pub sum_axes : Rect Float → Size Float
 sum_axes r = record { width = across r; height = down r }
 
 -- side by side
-unfoldable pub plus : Rect → Rect → Rect
+unfoldable pub plus : Rect Float → Rect Float → Rect Float
 plus a b =
     record {
       top = a.top ⊕ b.top;

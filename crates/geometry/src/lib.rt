@@ -1,19 +1,19 @@
-// Float structs by value (the crate's src/geometry.rs, the part that block layout uses).
+// Sizes, places and sides by value, of any kind of value (the crate's src/geometry.rs, the part that block layout uses).
 #![tactic(auto)]
 
 ghost use Rattle.std.specs.Prelude.{◌≡◌};
 ghost use Rattle.geometry.specs.Geometry.{across, down, sum_axes, plus};
 
 #[derive(Clone, Copy)]
-pub struct Size {
-    pub width: f32,
-    pub height: f32,
+pub struct Size<T> {
+    pub width: T,
+    pub height: T,
 }
 
 #[derive(Clone, Copy)]
-pub struct Point {
-    pub x: f32,
-    pub y: f32,
+pub struct Point<T> {
+    pub x: T,
+    pub y: T,
 }
 
 #[derive(Clone, Copy)]
@@ -23,14 +23,14 @@ pub struct Line {
 }
 
 #[derive(Clone, Copy)]
-pub struct Rect {
-    pub top: f32,
-    pub right: f32,
-    pub bottom: f32,
-    pub left: f32,
+pub struct Rect<T> {
+    pub top: T,
+    pub right: T,
+    pub bottom: T,
+    pub left: T,
 }
 
-impl Rect {
+impl Rect<f32> {
     pub fn horizontal_axis_sum(self) -> f32
         ensures { result ≡ across self }
     {
@@ -43,7 +43,7 @@ impl Rect {
         self.top + self.bottom
     }
 
-    pub fn sum_axes(self) -> Size
+    pub fn sum_axes(self) -> Size<f32>
         ensures { result ≡ sum_axes self }
     {
         Size {
@@ -52,7 +52,7 @@ impl Rect {
         }
     }
 
-    pub fn add(self, other: Rect) -> Rect
+    pub fn add(self, other: Rect<f32>) -> Rect<f32>
         ensures { result ≡ plus self other }
     {
         Rect {

@@ -15,10 +15,12 @@ ghost use Rattle.steps.specs.Through.{step_n, passed_out, output_of, finished, l
 ghost use Rattle.steps.specs.Height.{extra_of, step_k, step_l, held_open, still_own_end, step_m};
 
 use geometry::Size;
+use length::ResolveOrZero;
 use margin::CollapsibleMarginSet;
+use reader::Reader;
 use steps::{Cursor, Finished, Frame, LayoutInput, LayoutOutput};
 use style::{AlignContent, Measure};
-use util::OptionF32;
+use util::MaybeMath;
 
 // What the stack leaves to steps L to N. Of the children, as block.rs has it: their height (step K), the set above, the set
 // below, whether all shown ones are through, the first baseline. Of the frame, which is not held while they are laid out: its
@@ -29,13 +31,13 @@ pub struct StackOutput {
     pub top: CollapsibleMarginSet,
     pub bottom: CollapsibleMarginSet,
     pub allThrough: bool,
-    pub baseline: OptionF32,
+    pub baseline: Option<f32>,
     pub width: f32,
-    pub height: OptionF32,
+    pub height: Option<f32>,
     pub insets: f32,
     pub floor: f32,
-    pub minHeight: OptionF32,
-    pub maxHeight: OptionF32,
+    pub minHeight: Option<f32>,
+    pub maxHeight: Option<f32>,
     pub ownStart: bool,
     pub ownEnd: bool,
     pub hollow: bool,
@@ -119,12 +121,12 @@ fn container_outer_height(stack: StackOutput) -> f32
     )
 }
 
-fn height_constrained_by_min_height(lo: OptionF32, height: f32) -> bool
+fn height_constrained_by_min_height(lo: Option<f32>, height: f32) -> bool
     ensures { result ≡ held_open lo height }
 {
     match lo {
-        OptionF32::None => false,
-        OptionF32::Some(m) => { if 0.0 < m { height <= m } else { false } }
+        None => false,
+        Some(m) => { if 0.0 < m { height <= m } else { false } }
     }
 }
 
@@ -140,7 +142,7 @@ fn own_bottom_margin_collapses_with_children(stack: StackOutput, height: f32) ->
 }
 
 // Step M.
-fn group_offset(tail: Tail, stack: StackOutput, height: f32) -> OptionF32
+fn group_offset(tail: Tail, stack: StackOutput, height: f32) -> Option<f32>
     ensures { (s : Style) (q : LayoutInput) (f : Frame) (c : Cursor) → tail ≡ tail_of s q → stack ≡ stack_leaves f c → result ≡ step_m s f height (step_k f c) }
 {
     let align = tail.align;
@@ -173,27 +175,27 @@ fn passed_out(passed: bool, set: CollapsibleMarginSet, own: f32) -> CollapsibleM
 }
 
 // Step M moves a baseline too.
-fn shifted(b: OptionF32, shift: OptionF32) -> OptionF32
+fn shifted(b: Option<f32>, shift: Option<f32>) -> Option<f32>
     ensures { result ≡ shifted b shift }
 {
     match shift {
-        OptionF32::None => b,
-        OptionF32::Some(d) => b.maybe_add(d),
+        None => b,
+        Some(d) => b.maybe_add(d),
     }
 }
 
 // A container's baseline, of the first one found in its stack.
-fn block_baseline(tail: Tail, b: OptionF32, shift: OptionF32) -> OptionF32
+fn block_baseline(tail: Tail, b: Option<f32>, shift: Option<f32>) -> Option<f32>
     ensures { (s : Style) (q : LayoutInput) → tail ≡ tail_of s q → result ≡ block_baseline s b shift }
 {
     if tail.contained {
-        OptionF32::None
+        None
     } else {
         shifted(b, shift)
     }
 }
 
-fn output_of(tail: Tail, stack: StackOutput, height: f32, shift: OptionF32) -> LayoutOutput
+fn output_of(tail: Tail, stack: StackOutput, height: f32, shift: Option<f32>) -> LayoutOutput
     ensures { (s : Style) (q : LayoutInput) (f : Frame) (c : Cursor) → tail ≡ tail_of s q → stack ≡ stack_leaves f c → result ≡ output_of s q f c height shift }
 {
     let top = stack.top;
@@ -230,14 +232,14 @@ fn tail_at(words: &[u32], numbers: &[f32], base: usize, input: LayoutInput) -> T
     requires { (4 ≤ length words.now) × (base < plane_of numbers.now) }
     ensures { result ≡ tail_of (style_at words.now 0 numbers.now base) input }
 {
-    let r = reader::reader_at(words, numbers, base);
+    let r = Reader::at(words, numbers, base);
     let parent = input.parent;
     Tail {
         align: style::align_of(r.style),
         safe: style::flag(r.style, style::SAFE),
         contained: style::flag(r.style, style::CONTAINED),
-        top: length::resolve_or_zero(reader::margin_top(r, numbers), parent),
-        bottom: length::resolve_or_zero(reader::margin_bottom(r, numbers), parent),
+        top: r.margin_top().resolve_or_zero(parent),
+        bottom: r.margin_bottom().resolve_or_zero(parent),
     }
 }
 

@@ -2,6 +2,10 @@
 --     scroll-exactly-of    the scroll key over them finds the first leaf whose bottom is a greater number than y
 --     top-stays, bottom-stays    an entry's edges, over two row tables
 --     lent-aside           nothing of what was lent is left
+use Rattle.std.specs.Prelude.{Option, Result, Ok, ⊤, Err}
+use Rattle.scroll.specs.declared.ScrollRefusal.{ScrollRefusal}
+use Rattle.index.specs.declared.IndexRefusal.TheVariants.{Plain, BadEntry}
+use Rattle.index.specs.declared.IndexRefusal.{IndexRefusal}
 use mathlib.Core.Path.{◌≡◌, refl, sym, ap, ◌∙◌}
 use mathlib.Core.List.{List, map}
 use Prim.Native.Nat.{ℕ, ◌<◌}
@@ -18,31 +22,27 @@ use Rattle.edges.proofs.Outward.{edge_stays}
 use Rattle.edges.proofs.OfTree.{edge_is}
 use Rattle.scroll.specs.Running.{running_of}
 use Rattle.scroll.specs.Scroll.{scroll_answer, ScrollDue}
-use Rattle.scroll.specs.declared.ScrollAnswer.{ScrollAnswer}
 use Rattle.scroll.proofs.FirstMatch.{scroll_exactly}
 use Rattle.index.specs.Index.{Index, top_at, bottom_at, bottoms_of, index_of, index_answer, by_answer, index_result, Indexed}
-use Rattle.index.specs.declared.IndexAnswer.{IndexAnswer}
-use Rattle.index.specs.declared.IndexAnswer.TheVariants.{Made, Refused, BadEntry}
 use Rattle.index.proofs.Making.{accepted}
 
 -- only an accepted call answers Made
-only_made : (a : IndexAnswer) (new : Index) (ts bs ls : List Float) → Made ≡ (by_answer a new ts bs ls).answer → a ≡ Made
+only_made : (a : Result ⊤ IndexRefusal) (new : Index) (ts bs ls : List Float) → Ok tt ≡ (by_answer a new ts bs ls).answer → a ≡ Ok tt
 unfolding by_answer
-only_made Made new ts bs ls e = refl
-only_made (Refused r) new ts bs ls e = sym e
-only_made (BadEntry k) new ts bs ls e = sym e
+only_made (Ok _) new ts bs ls e = refl
+only_made (Err a) new ts bs ls e = sym e
 
 module _ (ws : List ℕ) (rs : List Float) (ms list : List ℕ) (ts bs ls : List Float) where
-  pub was-made : (ts' bs' ls' : List Float) → Indexed (index_result ws rs ms list ts bs ls) Made ts' bs' ls' → index_answer ws rs ms list (length ts) (length bs) (length ls) ≡ Made
+  pub was-made : (ts' bs' ls' : List Float) → Indexed (index_result ws rs ms list ts bs ls) (Ok tt) ts' bs' ls' → index_answer ws rs ms list (length ts) (length bs) (length ls) ≡ Ok tt
   unfolding index_result
   was-made ts' bs' ls' h = only_made (index_answer ws rs ms list (length ts) (length bs) (length ls)) (index_of ws rs list) ts bs ls h.answer_is
 
   -- an index that is made is that of the list, whatever was lent for it
-  pub lent-aside : index_answer ws rs ms list (length ts) (length bs) (length ls) ≡ Made → index_result ws rs ms list ts bs ls ≡ index_of ws rs list
+  pub lent-aside : index_answer ws rs ms list (length ts) (length bs) (length ls) ≡ Ok tt → index_result ws rs ms list ts bs ls ≡ index_of ws rs list
   unfolding index_result by_answer
   lent-aside e = rw e
 
-  module _ (ts' bs' ls' : List Float) (call : Indexed (index_result ws rs ms list ts bs ls) Made ts' bs' ls') where
+  module _ (ts' bs' ls' : List Float) (call : Indexed (index_result ws rs ms list ts bs ls) (Ok tt) ts' bs' ls') where
     result-is : index_result ws rs ms list ts bs ls ≡ index_of ws rs list
     result-is = lent-aside (was-made ts' bs' ls' call)
 
@@ -59,7 +59,7 @@ module _ (ws : List ℕ) (rs : List Float) (ms list : List ℕ) (ts bs ls : List
     running-left = call.running_is ∙ ap (λ (x : Index). x.running) result-is ∙ ap running_of (sym bottoms-left)
 
     -- from any rows whatever, NaN included
-    pub scroll-exactly-of : (y : Float) (a : ScrollAnswer) → Exactly (scroll_answer ls' y ≡ a) (ScrollDue bs' y a)
+    pub scroll-exactly-of : (y : Float) (a : Result (Option ℕ) ScrollRefusal) → Exactly (scroll_answer ls' y ≡ a) (ScrollDue bs' y a)
     scroll-exactly-of y a =
         let e = scroll_exactly bs' y a in
         rw running-left (record { only = e.0; given = e.1 })
@@ -86,8 +86,8 @@ bottom_same ws rs rs' i g l h q = rw (top_same ws rs rs' i g l h, q)
 
 -- two indexes of one list over one page's words, from two row tables
 module _ (ws : List ℕ) (rs rs' : List Float) (ms ms' list : List ℕ) (ts bs ls ts' bs' ls' : List Float)
-    (t b l : List Float) (call : Indexed (index_result ws rs ms list ts bs ls) Made t b l)
-    (t' b' l' : List Float) (call' : Indexed (index_result ws rs' ms' list ts' bs' ls') Made t' b' l')
+    (t b l : List Float) (call : Indexed (index_result ws rs ms list ts bs ls) (Ok tt) t b l)
+    (t' b' l' : List Float) (call' : Indexed (index_result ws rs' ms' list ts' bs' ls') (Ok tt) t' b' l')
     (k : ℕ) (within : k < length list) (places : SamePlaces ws rs rs' 1 (get_or list k 0)) where
   -- no place y at or above the leaf changed: its top stays
   pub top-stays : get_or t k zero_f ≡ get_or t' k zero_f

@@ -1,4 +1,7 @@
 -- From what the tests and the two loops leave to what make_index promises.
+use Rattle.std.specs.Prelude.{Result, Ok, Err}
+use Rattle.steps.specs.declared.Refusal.{Refusal}
+use Rattle.index.specs.declared.IndexRefusal.{IndexRefusal}
 use mathlib.Core.Path.{◌≡◌, refl, ap, ◌∙◌}
 use mathlib.Core.Bool.{false, not}
 use mathlib.Core.List.{List, [], ◌∷◌, map}
@@ -11,7 +14,6 @@ use borrow.Author.Tests.{ltb-true, eqb-true, not-false}
 use Rattle.limits.specs.Bools.{or_left, or_right}
 use Rattle.steps.specs.Page.{nodes_in}
 use Rattle.steps.specs.Noes.{bad_rows}
-use Rattle.steps.specs.declared.Answer.{Answer}
 use Rattle.tables.specs.TreeCheck.{GoodTable}
 use Rattle.edges.specs.Edges.{edge_at}
 use Rattle.edges.specs.Tests.{bad_words}
@@ -21,7 +23,6 @@ use Rattle.scroll.specs.Running.{running_of}
 use Rattle.index.specs.Entries.{not_above, no_laid_leaf, bad_entry}
 use Rattle.index.specs.Loops.{top_by, bottom_by, Edged}
 use Rattle.index.specs.Index.{top_at, bottom_at, index_of, uneven, index_misfit, index_answer, by_answer, index_result, Indexed}
-use Rattle.index.specs.declared.IndexAnswer.TheVariants.{Made, Refused, BadEntry}
 use Rattle.index.proofs.Exact.{index_exactly}
 
 -- the lengths of slices that are not uneven
@@ -57,10 +58,10 @@ module _ (ws : List ℕ) (rs : List Float) (ms list : List ℕ) (ts bs ls : List
     pub good : GoodTable ws
     pub nodes : (k : ℕ) → k < length list → get_or list k 0 < nodes_in ws
 
-  pub accepted : index_answer ws rs ms list (length ts) (length bs) (length ls) ≡ Made → Accepted
+  pub accepted : index_answer ws rs ms list (length ts) (length bs) (length ls) ≡ Ok tt → Accepted
   unfolding index_misfit
   accepted e =
-      let d = (index_exactly ws rs ms list (length ts) (length bs) (length ls) Made).only e in
+      let d = (index_exactly ws rs ms list (length ts) (length bs) (length ls) (Ok tt)).only e in
       let m = d.0.lengths in
       let w = or_left (bad_words ws) (bad_rows ws rs ms) (or_right (uneven (length list) (length ts) (length bs) (length ls)) _ m) in
       record {
@@ -77,7 +78,7 @@ module _ (ws : List ℕ) (rs : List Float) (ms list : List ℕ) (ts bs ls : List
   unfolding bottom_at top_at
   bottoms-same a = map_same (bottom_by ws rs) _ list (λ k h. rw (edge_is ws rs 1 (get_or list k 0) a.good (a.nodes k h)))
 
-  pub made : index_answer ws rs ms list (length ts) (length bs) (length ls) ≡ Made → (ts' bs' ls' : List Float) → Edged ws rs list ts' bs' → ls' ≡ running_of bs' → Indexed (index_result ws rs ms list ts bs ls) Made ts' bs' ls'
+  pub made : index_answer ws rs ms list (length ts) (length bs) (length ls) ≡ Ok tt → (ts' bs' ls' : List Float) → Edged ws rs list ts' bs' → ls' ≡ running_of bs' → Indexed (index_result ws rs ms list ts bs ls) (Ok tt) ts' bs' ls'
   unfolding index_result by_answer index_of
   made e ts' bs' ls' h q =
       let a = accepted e in
@@ -85,10 +86,6 @@ module _ (ws : List ℕ) (rs : List Float) (ms list : List ℕ) (ts bs ls : List
       let b = h.bottoms_are ∙ bottoms-same a in
       rw e (record { answer_is = refl; paper_is = refl; tops_are = t; bottoms_are = b; running_is = q ∙ ap running_of b })
 
-  pub refused : (a : Answer) → index_answer ws rs ms list (length ts) (length bs) (length ls) ≡ Refused a → Indexed (index_result ws rs ms list ts bs ls) (Refused a) ts bs ls
+  pub refused : (a : IndexRefusal) → index_answer ws rs ms list (length ts) (length bs) (length ls) ≡ Err a → Indexed (index_result ws rs ms list ts bs ls) (Err a) ts bs ls
   unfolding index_result by_answer
   refused a e = rw e (record { answer_is = refl; paper_is = refl; tops_are = refl; bottoms_are = refl; running_is = refl })
-
-  pub bad-list : (k : ℕ) → index_answer ws rs ms list (length ts) (length bs) (length ls) ≡ BadEntry k → Indexed (index_result ws rs ms list ts bs ls) (BadEntry k) ts bs ls
-  unfolding index_result by_answer
-  bad-list k e = rw e (record { answer_is = refl; paper_is = refl; tops_are = refl; bottoms_are = refl; running_is = refl })

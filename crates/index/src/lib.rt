@@ -4,21 +4,29 @@
 mod list;
 
 ghost use Rattle.std.specs.Prelude.{◌≡◌, length};
+ghost use Rattle.index.specs.declared.IndexRefusal.TheVariants.{Plain};
 ghost use Rattle.index.specs.Index.{uneven, index_answer, index_result, Indexed};
 ghost use Rattle.index.specs.Loops.{AsLong, TwoAsLong, Edged};
 ghost use Rattle.scroll.specs.Running.{running_of};
 
 use crate::list::list_tested;
 use edges::{near_edge, row_number, rows_tested};
-use steps::{Answer, Tested};
+use steps::Refusal;
 use util::f32_max;
 
-// What make_index answers: made, one of the earlier noes, or 9 with its place.
+// Why make_index refuses: one of the earlier noes, or 9 with its place.
 #[derive(Clone, Copy)]
-pub enum IndexAnswer {
-    Made,
-    Refused(Answer),
+pub enum IndexRefusal {
+    Plain(Refusal),
     BadEntry(u32),
+}
+
+impl From<Refusal> for IndexRefusal {
+    ghost from_gives = { λ no refusal. refusal ≡ Plain no };
+
+    fn from(no: Refusal) -> IndexRefusal {
+        IndexRefusal::Plain(no)
+    }
 }
 
 // 1: the slices of the index are as long as the list.
@@ -43,15 +51,13 @@ fn index_tested(
     tops: &[f32],
     bottoms: &[f32],
     running: &[f32],
-) -> IndexAnswer
+) -> Result<(), IndexRefusal>
     ensures { result ≡ index_answer words.now rows.now marks.now list.now (length tops.now) (length bottoms.now) (length running.now) }
 {
     if is_uneven(list, tops, bottoms, running) {
-        return IndexAnswer::Refused(Answer::Lengths);
+        return Err(IndexRefusal::Plain(Refusal::Lengths));
     }
-    if let Tested::Refuse(a) = rows_tested(words, rows, marks) {
-        return IndexAnswer::Refused(a);
-    }
+    rows_tested(words, rows, marks)?;
     list_tested(words, marks, list)
 }
 
@@ -60,14 +66,12 @@ fn put_edges(words: &[u32], rows: &[f32], list: &[u32], tops: &mut [f32], bottom
     requires { TwoAsLong list.now tops.old bottoms.old }
     ensures { Edged words.now rows.now list.now tops.new bottoms.new }
 {
-    let mut k = 0;
-    while k < list.len() {
+    for k in 0..list.len() {
         let i = list[k] as usize;
         let top = near_edge(words, rows, 1, i);
         let bottom = top + row_number(rows, i, 3);
         tops[k] = top;
         bottoms[k] = bottom;
-        k += 1;
     }
 }
 
@@ -77,12 +81,10 @@ fn put_running(bottoms: &[f32], running: &mut [f32])
     ensures { running.new ≡ running_of bottoms.now }
 {
     let mut most = -3.40282347e38;
-    let mut k = 0;
-    while k < bottoms.len() {
+    for k in 0..bottoms.len() {
         let bottom = bottoms[k];
         most = f32_max(most, bottom);
         running[k] = most;
-        k += 1;
     }
 }
 
@@ -95,17 +97,11 @@ pub fn make_index(
     tops: &mut [f32],
     bottoms: &mut [f32],
     running: &mut [f32],
-) -> IndexAnswer
+) -> Result<(), IndexRefusal>
     ensures { Indexed (index_result words.now rows.now marks.now list.now tops.old bottoms.old running.old) result tops.new bottoms.new running.new }
 {
-    let a = index_tested(words, rows, marks, list, tops, bottoms, running);
-    match a {
-        IndexAnswer::Made => {
-            put_edges(words, rows, list, tops, bottoms);
-            put_running(bottoms, running);
-            IndexAnswer::Made
-        }
-        IndexAnswer::Refused(no) => IndexAnswer::Refused(no),
-        IndexAnswer::BadEntry(k) => IndexAnswer::BadEntry(k),
-    }
+    index_tested(words, rows, marks, list, tops, bottoms, running)?;
+    put_edges(words, rows, list, tops, bottoms);
+    put_running(bottoms, running);
+    Ok(())
 }

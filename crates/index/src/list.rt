@@ -4,8 +4,8 @@ ghost use Rattle.steps.specs.Scan.{first_of};
 ghost use Rattle.index.specs.Entries.{bits_at, not_above, bad_entry};
 ghost use Rattle.index.specs.Index.{list_answer};
 
-use crate::IndexAnswer;
-use steps::Spot;
+use crate::IndexRefusal;
+use lent::smaller;
 use style::{code, flag, word};
 
 // The bits of row i, and 0 past the end.
@@ -47,37 +47,28 @@ fn bad_entry(words: &[u32], marks: &[u32], list: &[u32], k: usize) -> bool
     !flag(bits_at(marks, i), steps::LAID)
 }
 
-// 9: how many of the entries are looked at.
-fn looked_at(n: usize) -> usize
-    ensures { result ≡ min 256 n }
-{
-    if n < 256 { n } else { 256 }
-}
-
 // 9: the first of them that is at fault.
-fn first_bad_entry(words: &[u32], marks: &[u32], list: &[u32]) -> Spot
+fn first_bad_entry(words: &[u32], marks: &[u32], list: &[u32]) -> Option<u32>
     ensures { result ≡ first_of (bad_entry words.now marks.now list.now) (min 256 (length list.now)) }
 {
-    let most = looked_at(list.len());
-    let mut k = 0;
-    while k < most {
+    let most = smaller(256, list.len());
+    for k in 0..most {
         if bad_entry(words, marks, list, k) {
-            return Spot::At(k as u32);
+            return Some(k as u32);
         }
-        k += 1;
     }
-    Spot::Nowhere
+    None
 }
 
 // 9.
-pub(crate) fn list_tested(words: &[u32], marks: &[u32], list: &[u32]) -> IndexAnswer
+pub(crate) fn list_tested(words: &[u32], marks: &[u32], list: &[u32]) -> Result<(), IndexRefusal>
     ensures { result ≡ list_answer words.now marks.now list.now }
 {
-    if let Spot::At(k) = first_bad_entry(words, marks, list) {
-        return IndexAnswer::BadEntry(k);
+    if let Some(k) = first_bad_entry(words, marks, list) {
+        return Err(IndexRefusal::BadEntry(k));
     }
     if 256 < list.len() {
-        return IndexAnswer::BadEntry(256);
+        return Err(IndexRefusal::BadEntry(256));
     }
-    IndexAnswer::Made
+    Ok(())
 }

@@ -1,158 +1,81 @@
-// One case after the other: its lengths, its words, its answer.
-ghost use Rattle.std.specs.Prelude.{◌≤◌, length};
-
+// One case: its lengths, its words, its answer.
 use crate::show;
-use reading::{copy_numbers, copy_rows, length_at, past, word_at};
+use reading::{copy_numbers, copy_rows, length_at, split, word_at};
 use std::io::Stdout;
+use text::{bits_of, float_of};
 
-// What make_index answers and leaves: words from a to b, marks from c to d, the list from d to e.
-fn show_index(
-    to: Stdout,
-    all: &[u32],
-    a: usize,
-    b: usize,
-    c: usize,
-    d: usize,
-    e: usize,
-    rows: &[f32],
+// Tops, bottoms and running as lent, and what stands behind them.
+fn fill_index<'a>(
+    words: &'a [u32],
     tops: &mut [f32],
     bottoms: &mut [f32],
     running: &mut [f32],
-)
-    requires words { a ≤ b }
-    requires rows { b ≤ c }
-    requires marks { c ≤ d }
-    requires list { d ≤ e }
-    requires end { e ≤ length all.now }
-{
-    let answer = index::make_index(
-        &all[a..b],
-        rows,
-        &all[c..d],
-        &all[d..e],
-        tops,
-        bottoms,
-        running,
-    );
+) -> &'a [u32] {
+    let (for_tops, rest) = split(words, tops.len());
+    let (for_bottoms, rest) = split(rest, bottoms.len());
+    let (for_running, rest) = split(rest, running.len());
+    copy_numbers(for_tops, tops);
+    copy_numbers(for_bottoms, bottoms);
+    copy_numbers(for_running, running);
+    rest
+}
+
+// An index: the lengths of words, rows, marks, list, tops, bottoms and running, then their words; what stands behind it. The slices are cut to their lengths.
+fn run_index<'a>(
+    mut to: Stdout,
+    case: &'a [u32],
+    rows: &mut [f32],
+    tops: &mut [f32],
+    bottoms: &mut [f32],
+    running: &mut [f32],
+) -> &'a [u32] {
+    let (lengths, rest) = split(case, 8);
+    let r = length_at(lengths, 2, rows.len());
+    let t = length_at(lengths, 5, tops.len());
+    let b = length_at(lengths, 6, bottoms.len());
+    let o = length_at(lengths, 7, running.len());
+    let rows = &mut rows[..r];
+    let tops = &mut tops[..t];
+    let bottoms = &mut bottoms[..b];
+    let running = &mut running[..o];
+    let (words, rest) = split(rest, word_at(lengths, 1) as usize);
+    let (for_rows, rest) = split(rest, 2 * (r / 16));
+    let (marks, rest) = split(rest, word_at(lengths, 3) as usize);
+    let (list, rest) = split(rest, word_at(lengths, 4) as usize);
+    copy_rows(for_rows, rows);
+    let rest = fill_index(rest, tops, bottoms, running);
+    let answer = index::make_index(words, rows, marks, list, tops, bottoms, running);
     show::indexed(to, answer);
-    show::numbers(to, tops);
-    show::numbers(to, bottoms);
-    show::numbers(to, running);
+    console::print_line(&mut to, tops, bits_of);
+    console::print_line(&mut to, bottoms, bits_of);
+    console::print_line(&mut to, running, bits_of);
+    rest
 }
 
-// Tops, bottoms and running as lent, from `at` on, and where they end.
-fn fill_index(
-    all: &[u32],
-    at: usize,
-    tops: &mut [f32],
-    bottoms: &mut [f32],
-    running: &mut [f32],
-) -> usize
-    requires { at ≤ length all.now }
-    ensures { result ≤ length all.now }
-{
-    copy_numbers(all, at, tops);
-    let at_bottoms = past(all, at, tops.len());
-    copy_numbers(all, at_bottoms, bottoms);
-    let at_running = past(all, at_bottoms, bottoms.len());
-    copy_numbers(all, at_running, running);
-    past(all, at_running, running.len())
-}
-
-// An index: the lengths of words, rows, marks, list, tops, bottoms and running, then their words. The slices are cut to their lengths.
-fn run_index(
-    to: Stdout,
-    all: &[u32],
-    k: usize,
-    rows: &mut [f32],
-    tops: &mut [f32],
-    bottoms: &mut [f32],
-    running: &mut [f32],
-) -> usize
-    requires { k ≤ length all.now }
-    ensures { result ≤ length all.now }
-{
-    let at_words = past(all, k, 8);
-    let at_rows = past(all, at_words, word_at(all, k + 1) as usize);
-    let at_marks = past(all, at_rows, 2 * (rows.len() / 16));
-    let at_list = past(all, at_marks, word_at(all, k + 3) as usize);
-    let at_tops = past(all, at_list, word_at(all, k + 4) as usize);
-    copy_rows(all, at_rows, rows);
-    let end = fill_index(all, at_tops, tops, bottoms, running);
-    show_index(
-        to, all, at_words, at_rows, at_marks, at_list, at_tops, rows, tops, bottoms, running,
-    );
-    end
-}
-
-fn cut_index(
-    to: Stdout,
-    all: &[u32],
-    k: usize,
-    rows: &mut [f32],
-    tops: &mut [f32],
-    bottoms: &mut [f32],
-    running: &mut [f32],
-) -> usize
-    requires { k ≤ length all.now }
-    ensures { result ≤ length all.now }
-{
-    let r = length_at(all, k + 2, rows.len());
-    let t = length_at(all, k + 5, tops.len());
-    let b = length_at(all, k + 6, bottoms.len());
-    let o = length_at(all, k + 7, running.len());
-    run_index(
-        to,
-        all,
-        k,
-        &mut rows[..r],
-        &mut tops[..t],
-        &mut bottoms[..b],
-        &mut running[..o],
-    )
-}
-
-// The slice of a scroll key from `at` on, and its answer.
-fn run_scroll(to: Stdout, all: &[u32], at: usize, y: f32, running: &mut [f32]) -> usize
-    requires { at ≤ length all.now }
-    ensures { result ≤ length all.now }
-{
-    copy_numbers(all, at, running);
+// A scroll key: the length of the slice, y, then the slice; what stands behind it.
+fn run_scroll<'a>(to: Stdout, case: &'a [u32], running: &mut [f32]) -> &'a [u32] {
+    let (head, rest) = split(case, 3);
+    let n = length_at(head, 1, running.len());
+    let y = float_of(word_at(head, 2));
+    let (words, rest) = split(rest, n);
+    let running = &mut running[..n];
+    copy_numbers(words, running);
     show::found(to, scroll::scroll(running, y));
-    past(all, at, running.len())
+    rest
 }
 
-// A scroll key: the length of the slice, y, then the slice.
-fn cut_scroll(to: Stdout, all: &[u32], k: usize, running: &mut [f32]) -> usize
-    requires { k ≤ length all.now }
-    ensures { result ≤ length all.now }
-{
-    let n = length_at(all, k + 1, running.len());
-    let y = text::float_of(word_at(all, k + 2));
-    run_scroll(to, all, past(all, k, 3), y, &mut running[..n])
-}
-
-// All cases of the first n words, a thousand at most.
-pub fn run(
+// The case at the front of the words, by its first word; what stands behind it.
+pub fn run_case<'a>(
     to: Stdout,
-    all: &[u32],
-    n: usize,
+    case: &'a [u32],
     rows: &mut [f32],
     tops: &mut [f32],
     bottoms: &mut [f32],
     running: &mut [f32],
-) {
-    let mut k = 0usize;
-    let mut cases = 0usize;
-    while cases < 1000 {
-        if n <= k {
-            return;
-        }
-        cases += 1;
-        if word_at(all, k) == 0 {
-            k = cut_index(to, all, k, rows, tops, bottoms, running);
-        } else {
-            k = cut_scroll(to, all, k, running);
-        }
+) -> &'a [u32] {
+    if word_at(case, 0) == 0 {
+        run_index(to, case, rows, tops, bottoms, running)
+    } else {
+        run_scroll(to, case, running)
     }
 }

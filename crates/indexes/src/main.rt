@@ -13,13 +13,14 @@ fn main(rt: HostRuntime) {
     let mut running = [0.0f32; 300];
     let n = console::read_full(&mut rt.stdin(), &mut text);
     let k = reading::read_words(&text[..n], &mut all);
-    cases::run(
-        rt.stdout(),
-        &all,
-        k,
-        &mut rows,
-        &mut tops,
-        &mut bottoms,
-        &mut running,
-    );
+    reading::each_case(&all, k, |case| {
+        cases::run_case(
+            rt.stdout(),
+            case,
+            &mut rows,
+            &mut tops,
+            &mut bottoms,
+            &mut running,
+        )
+    });
 }

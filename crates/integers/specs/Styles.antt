@@ -1,9 +1,10 @@
 -- A node's style over whole numbers: a length is pixels or missing (auto); there is no fraction and no ratio. And what is asked of a page.
+use Rattle.style.specs.declared.Overflow.{Overflow}
+use Rattle.geometry.specs.declared.Point.{Point}
 use Rattle.std.specs.Prelude.{Bool, not, ◌&&◌, ◌||◌, ℤ, ◌-ℤ◌}
 use Rattle.style.specs.Flow.{flow_by, is_in, is_leaf}
 use Rattle.style.specs.declared.Kind.{Kind}
 use Rattle.style.specs.declared.Position.{Position}
-use Rattle.style.specs.declared.OverflowXY.{OverflowXY}
 use Rattle.style.specs.declared.AlignContent.{AlignContent}
 use Rattle.style.specs.declared.Flow.{Flow}
 use Rattle.steps.specs.Context.{clips, is_normal}
@@ -21,7 +22,7 @@ pub record StyleZ : Type 0 where
   pub content : Bool
   pub rtl : Bool
   pub position : Position
-  pub overflow : OverflowXY
+  pub overflow : Point Overflow
   pub align : AlignContent
   pub safe : Bool
   pub contained : Bool

@@ -1,121 +1,92 @@
-// One case after the other: its lengths, its page, its events.
-ghost use Rattle.std.specs.Prelude.{◌≤◌, length};
+// One case: its lengths, its page, its events.
+ghost use Rattle.std.specs.Prelude.{◌≤◌};
 
-use crate::show;
-use reading::{copy_numbers, length_at, past, word_at};
+use day::State;
+use plays::{Panel, play, start_of};
+use reading::{copy_numbers, length_at, split};
+use std::convert::identity;
 use std::io::Stdout;
+use text::bits_of;
 
-fn copy_words(all: &[u32], from: usize, out: &mut [u32])
-    requires { from ≤ length all.now }
-{
-    let n = out.len();
-    let mut j = 0usize;
-    while j < n {
-        out[j] = word_at(all, from + j);
-        j += 1;
+// What a panel can be lent at most: eight nodes and eight records.
+#[derive(Drop)]
+struct Memory {
+    rows: [f32; 128],
+    marks: [u32; 16],
+    pairs: [u32; 16],
+    triples: [f32; 24],
+    list: [u32; 65],
+}
+
+impl Memory {
+    fn new() -> Memory {
+        Memory {
+            rows: [0.0; 128],
+            marks: [0; 16],
+            pairs: [0; 16],
+            triples: [0.0; 24],
+            list: [0; 65],
+        }
+    }
+
+    fn lend(&mut self, state: State, nodes: usize, records: usize) -> Panel<'_>
+        requires nodes { nodes ≤ 8 }
+        requires records { records ≤ 8 }
+    {
+        let Memory {
+            rows,
+            marks,
+            pairs,
+            triples,
+            list,
+        } = self;
+        Panel {
+            state,
+            rows: &mut rows[..16 * nodes],
+            marks: &mut marks[..2 * nodes],
+            pairs: &mut pairs[..2 * records],
+            triples: &mut triples[..3 * records],
+            list,
+        }
     }
 }
 
-// The page, both panels, how many events; then they are played, and what both are left with is printed.
-fn run_lent(
-    to: Stdout,
-    all: &[u32],
-    k: usize,
-    words: &mut [u32],
-    numbers: &mut [f32],
-    hall_rows: &mut [f32],
-    hall_marks: &mut [u32],
-    hall_pairs: &mut [u32],
-    hall_triples: &mut [f32],
-    rows: &mut [f32],
-    marks: &mut [u32],
-    pairs: &mut [u32],
-    triples: &mut [f32],
-) -> usize
-    requires { k ≤ length all.now }
-    ensures { result ≤ length all.now }
-{
-    let count = length_at(all, k + 4, 4096);
-    let mut hall_list = [0u32; 65];
-    let mut list = [0u32; 65];
-    let at_hall = past(all, k, 5);
-    let at_kitchen = past(all, at_hall, 10);
-    let at_words = past(all, at_kitchen, 10);
-    let at_numbers = past(all, at_words, words.len());
-    let at_events = past(all, at_numbers, numbers.len());
-    let start = plays::start_at(all, at_hall, at_kitchen);
-    copy_words(all, at_words, words);
-    copy_numbers(all, at_numbers, numbers);
-    let end = plays::play(
-        to,
-        all,
-        at_events,
-        count,
-        start,
-        words,
-        numbers,
-        hall_rows,
-        hall_marks,
-        hall_pairs,
-        hall_triples,
-        &mut hall_list,
-        rows,
-        marks,
-        pairs,
-        triples,
-        &mut list,
-    );
-    show::panel(to, hall_rows, hall_marks, hall_pairs, hall_triples);
-    show::panel(to, rows, marks, pairs, triples);
-    end
+// What a panel is left with.
+fn show(mut to: Stdout, panel: &Panel) {
+    console::print_line(&mut to, panel.rows, bits_of);
+    console::print_line(&mut to, panel.marks, identity);
+    console::print_line(&mut to, panel.pairs, identity);
+    console::print_line(&mut to, panel.triples, bits_of);
 }
 
-// A case: how many words and numbers it has, how many records each panel is lent, how many events; then what run_lent reads.
-fn run_case(to: Stdout, all: &[u32], k: usize) -> usize
-    requires { k ≤ length all.now }
-    ensures { result ≤ length all.now }
-{
-    let mut words = [0u32; 32];
-    let mut numbers = [0.0f32; 224];
-    let mut hall_rows = [0.0f32; 128];
-    let mut hall_marks = [0u32; 16];
-    let mut hall_pairs = [0u32; 16];
-    let mut hall_triples = [0.0f32; 24];
-    let mut rows = [0.0f32; 128];
-    let mut marks = [0u32; 16];
-    let mut pairs = [0u32; 16];
-    let mut triples = [0.0f32; 24];
-    let w = length_at(all, k, 32);
-    let x = length_at(all, k + 1, 224);
-    let n = w / 4;
-    let h = length_at(all, k + 2, 8);
-    let r = length_at(all, k + 3, 8);
-    run_lent(
+// A case: how many words and numbers its page has, how many records each panel is lent, how many events; then both questions, the page, the events; what stands behind it.
+pub fn run_case<'a>(to: Stdout, case: &'a [u32]) -> &'a [u32] {
+    let (lengths, rest) = split(case, 5);
+    let w = length_at(lengths, 0, 32);
+    let x = length_at(lengths, 1, 224);
+    let count = length_at(lengths, 4, 4096);
+    let (for_hall, rest) = split(rest, 10);
+    let (for_kitchen, rest) = split(rest, 10);
+    let (for_words, rest) = split(rest, w);
+    let (for_numbers, events) = split(rest, x);
+    let mut words = [0; 32];
+    let mut numbers = [0.0; 224];
+    words[..for_words.len()].copy_from_slice(for_words);
+    copy_numbers(for_numbers, &mut numbers);
+    let mut hall_memory = Memory::new();
+    let mut kitchen_memory = Memory::new();
+    let mut hall = hall_memory.lend(start_of(for_hall), w / 4, length_at(lengths, 2, 8));
+    let mut kitchen = kitchen_memory.lend(start_of(for_kitchen), w / 4, length_at(lengths, 3, 8));
+    let rest = play(
         to,
-        all,
-        k,
+        events,
+        count,
         &mut words[..w],
         &mut numbers[..x],
-        &mut hall_rows[..16 * n],
-        &mut hall_marks[..2 * n],
-        &mut hall_pairs[..2 * h],
-        &mut hall_triples[..3 * h],
-        &mut rows[..16 * n],
-        &mut marks[..2 * n],
-        &mut pairs[..2 * r],
-        &mut triples[..3 * r],
-    )
-}
-
-// All cases of the first n words, a thousand at most.
-pub fn run(to: Stdout, all: &[u32], n: usize) {
-    let mut k = 0usize;
-    let mut cases = 0usize;
-    while cases < 1000 {
-        if n <= k {
-            return;
-        }
-        cases += 1;
-        k = run_case(to, all, k);
-    }
+        &mut hall,
+        &mut kitchen,
+    );
+    show(to, &hall);
+    show(to, &kitchen);
+    rest
 }

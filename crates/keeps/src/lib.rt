@@ -20,41 +20,33 @@ fn fair(l: Length) -> bool
 }
 
 // A padding or a border that is auto or pixels.
+#[tactic(auto, unfolding(order::specs::Class::whole))]
 fn whole(l: Length) -> bool
     ensures { result ≡ whole l }
 {
-    match l {
-        Length::Auto => true,
-        Length::Pixels(_) => true,
-        Length::Fraction(_) => false,
-    }
+    matches!(l, Length::Auto | Length::Pixels(_))
 }
 
 // Not relative.
+#[tactic(auto, unfolding(order::specs::Class::still))]
 fn still(p: Position) -> bool
     ensures { result ≡ still p }
 {
-    match p {
-        Position::Static => true,
-        Position::Relative => false,
-        Position::Absolute => true,
-    }
+    matches!(p, Position::Static | Position::Absolute)
 }
 
 // Normal and start, and the words that act as start.
+#[tactic(auto, unfolding(order::specs::Class::unshifted))]
 fn unshifted(a: AlignContent) -> bool
     ensures { result ≡ unshifted a }
 {
-    match a {
-        AlignContent::Normal => true,
-        AlignContent::Start => true,
-        AlignContent::Center => false,
-        AlignContent::End => false,
-        AlignContent::SpaceBetween => true,
-        AlignContent::SpaceAround => false,
-        AlignContent::SpaceEvenly => false,
-        AlignContent::Stretch => true,
-    }
+    matches!(
+        a,
+        AlignContent::Normal
+            | AlignContent::Start
+            | AlignContent::SpaceBetween
+            | AlignContent::Stretch
+    )
 }
 
 // Of the top and of the bottom of node i; the four fields of its margin begin with f.
@@ -89,12 +81,10 @@ pub fn keeps_order(words: &[u32], numbers: &[f32]) -> bool
     ensures { result ≡ keeps_order words.now numbers.now }
 {
     let n = words.len() / style::WORDS;
-    let mut i = 0;
-    while i < n {
+    for i in 0..n {
         if !steady(words, numbers, i) {
             return false;
         }
-        i += 1;
     }
     true
 }

@@ -1,10 +1,7 @@
 -- Ask once, trust it (request 14): the both-axes size question gives the root's size of a fresh layout.
-use Rattle.std.specs.Prelude.{◌≡◌, refl, false, Float}
+use Rattle.std.specs.Prelude.{◌≡◌, refl, false, Float, Option, None, Some}
 use Rattle.std.proofs.Common.{◌∙◌}
 use Rattle.geometry.specs.declared.Size.{Size}
-use Rattle.util.specs.declared.OptionF32.{OptionF32}
-use Rattle.util.specs.declared.OptionF32.TheVariants.{None, Some}
-use Rattle.util.specs.declared.OptionSize.{OptionSize}
 use Rattle.style.specs.Flow.{is_leaf}
 use Rattle.style.specs.declared.Style.{Style}
 use Rattle.tree.specs.Tree.{Forest, node, map_t, map_f}
@@ -21,15 +18,15 @@ use Rattle.steps.proofs.Clauses.{block_out}
 use Rattle.laws.specs.AskOnce.{laid_size, rest_is, stays, stays_tall, open_width, open_height, both_axes, known_both, LaidSize, frame_size, pass_root, root_of, kind_kept}
 
 -- so does C
-module _ (s : Style) (z : Sizing) (k : OptionSize) (found content : Float) where
-  abbrev rest : Size
+module _ (s : Style) (z : Sizing) (k : Size (Option Float)) (found content : Float) where
+  abbrev rest : Size Float
   rest = size_below Both z (step_d s z (step_b z k)) found (laid_size z (step_d s z (step_b z k)) found content)
 
-  tall : (w : Float) → (step_b z k).width ≡ Some w → (o : OptionF32) → (step_b z k).height ≡ o → step_c Both (Some w) o rest ≡ laid_size z (step_d s z (step_b z k)) found content
+  tall : (w : Float) → (step_b z k).width ≡ Some w → (o : Option Float) → (step_b z k).height ≡ o → step_c Both (Some w) o rest ≡ laid_size z (step_d s z (step_b z k)) found content
   tall w e None g = open_height w rest ∙ rest_is z (step_d s z (step_b z k)) found content
   tall w e (Some h) g = both_axes w h rest ∙ rw (stays s z (step_b z k) w e, stays_tall s z (step_b z k) h g) (known_both z k w h found content g)
 
-  wide : (o : OptionF32) → (step_b z k).width ≡ o → step_c Both o (step_b z k).height rest ≡ laid_size z (step_d s z (step_b z k)) found content
+  wide : (o : Option Float) → (step_b z k).width ≡ o → step_c Both o (step_b z k).height rest ≡ laid_size z (step_d s z (step_b z k)) found content
   wide None e = open_width (step_b z k).height rest ∙ rest_is z (step_d s z (step_b z k)) found content
   wide (Some w) e = tall w e (step_b z k).height refl
 

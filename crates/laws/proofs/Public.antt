@@ -1,5 +1,5 @@
 -- Demand 3 carried to tables: trees parsed from them, and the results of the public calls.
-use Rattle.std.specs.Prelude.{◌≡◌, ℕ, ◌+◌, ◌<◌, Float}
+use Rattle.std.specs.Prelude.{◌≡◌, ℕ, ◌+◌, ◌<◌, Float, Ok}
 use Rattle.std.proofs.Math.Path.{refl, ap}
 use Rattle.std.proofs.Common.{sym, ◌∙◌, arith}
 use mathlib.Core.List.{List, []}
@@ -13,7 +13,6 @@ use Rattle.steps.specs.Layout.{relaid, fresh}
 use Rattle.steps.specs.Noes.{relayout_tested}
 use Rattle.steps.specs.Results.{rows_out, marks_out, layout_result, relayout_result}
 use Rattle.steps.specs.declared.LayoutInput.{LayoutInput}
-use Rattle.steps.specs.declared.Tested.TheVariants.{Pass}
 use Rattle.laws.specs.Trees.{AllT}
 use Rattle.laws.specs.Pages.{Both, was_site, now_site, old_of, again, Honest}
 use Rattle.laws.proofs.Relayout.{relayout_fresh}
@@ -85,7 +84,7 @@ module _ (ws : List ℕ) (xs : List Float) (ws' : List ℕ) (xs' : List Float) (
 module _ (checks : Checks) where
   -- one relayout
   pub relayout-layout-same : (ws : List ℕ) (xs : List Float) (q : LayoutInput) (rs : List Float) (ms : List ℕ) (ws' : List ℕ) (xs' : List Float) (cw : List ℕ) (cx : List Float) (es : List ℕ) (p : LayoutInput)
-      → FreshRows ws xs q rs ms → SameShape ws ws' → Named es ws xs ws' xs' → relayout_tested ws' xs' rs ms cw cx es p ≡ Pass → relayout_result ws' xs' rs ms cw cx es p ≡ layout_result ws' xs' rs ms cw cx p
+      → FreshRows ws xs q rs ms → SameShape ws ws' → Named es ws xs ws' xs' → relayout_tested ws' xs' rs ms cw cx es p ≡ Ok tt → relayout_result ws' xs' rs ms cw cx es p ≡ layout_result ws' xs' rs ms cw cx p
   unfolding relayout_result layout_result
   relayout-layout-same ws xs q rs ms ws' xs' cw cx es p f shape named t =
       let l = relayout_layout ws' xs' rs ms cw cx es p t in
@@ -106,7 +105,7 @@ module _ (checks : Checks) where
 
   -- two pages that differ only below kept nodes
   pub relayouts_same : (ws : List ℕ) (xs : List Float) (ws' : List ℕ) (xs' : List Float) (rs : List Float) (ms cw : List ℕ) (cx : List Float) (es : List ℕ) (q : LayoutInput) → SameShape ws ws'
-      → ((i : ℕ) → i < nodes_in ws → AgreeAt ws xs ws' xs' (below_at ws xs rs ms es q i) i) → relayout_tested ws xs rs ms cw cx es q ≡ Pass → relayout_tested ws' xs' rs ms cw cx es q ≡ Pass
+      → ((i : ℕ) → i < nodes_in ws → AgreeAt ws xs ws' xs' (below_at ws xs rs ms es q i) i) → relayout_tested ws xs rs ms cw cx es q ≡ Ok tt → relayout_tested ws' xs' rs ms cw cx es q ≡ Ok tt
       → relayout_result ws xs rs ms cw cx es q ≡ relayout_result ws' xs' rs ms cw cx es q
   unfolding relayout_result
   relayouts_same ws xs ws' xs' rs ms cw cx es q shape agree t t' =

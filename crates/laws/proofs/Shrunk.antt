@@ -1,9 +1,8 @@
 -- Fractions inside a shrunk page (request 4). Step E as it was: children's numbers resolved once, against the known width less insets, else without basis. Where the
 -- root's width is known the final pass leaves the same as before, for any old rows: only a page that shrinks to fit differs.
-use Rattle.std.specs.Prelude.{◌≡◌, refl, Bool, true, false, Float}
+use Rattle.std.specs.Prelude.{◌≡◌, refl, Bool, true, false, Float, Some}
 use Rattle.std.proofs.Common.{sym, ◌∙◌}
 use Rattle.geometry.specs.Geometry.{zero_f}
-use Rattle.util.specs.declared.OptionF32.TheVariants.{Some}
 use Rattle.style.specs.Flow.{is_leaf, flow_of}
 use Rattle.style.specs.declared.Flow.{Flow}
 use Rattle.style.specs.declared.Flow.TheVariants.{Gone, Out, In}

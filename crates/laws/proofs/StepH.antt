@@ -1,9 +1,8 @@
 -- Step H is gone (request 9): it resolved padding and border again, against the parent width, else the own width. Wherever it was reached the parent width was there,
 -- so it gave A's. The final pass as it was, with H, and that it leaves the same rows, for any old rows.
-use Rattle.std.specs.Prelude.{◌≡◌, refl, Bool, true, false, Float}
+use Rattle.std.specs.Prelude.{◌≡◌, refl, Bool, true, false, Float, is_some, unwrap_or}
 use Rattle.std.proofs.Common.{sym, ap, ◌∙◌}
 use Rattle.geometry.specs.Geometry.{zero_f}
-use Rattle.util.specs.Maybe.{is_some, unwrap_or}
 use Rattle.length.specs.Length.{resolved_rect}
 use Rattle.style.specs.Flow.{is_leaf}
 use Rattle.style.specs.declared.Style.{Style}

@@ -1,10 +1,8 @@
 -- The width pass reads no style below a node that the final pass keeps.
-use Rattle.std.specs.Prelude.{◌≡◌, refl, Bool, true, false, Float}
+use Rattle.std.specs.Prelude.{◌≡◌, refl, Bool, true, false, Float, Option, None}
 use Rattle.std.proofs.Common.{sym, ap, ◌∙◌}
 use Rattle.geometry.specs.Geometry.{zero_f}
 use Rattle.util.specs.Math.{larger}
-use Rattle.util.specs.declared.OptionF32.{OptionF32}
-use Rattle.util.specs.declared.OptionF32.TheVariants.{None}
 use Rattle.length.specs.declared.AvailableSpace.{AvailableSpace}
 use Rattle.style.specs.declared.Style.{Style}
 use Rattle.tree.specs.Tree.{Tree, Forest, node, none, more, map_t, map_f, root_t}
@@ -122,7 +120,7 @@ unread_pass (node l ks) q h e =
     then_same _ _ _ (page_same (page1 l) ks _ q.parent _ _ (λ p. go p (is_leaf l.one.kind) refl))
     (ap (λ (c : Cell). width_pass (node c (map_f page2 ks)) q) (same_cell l h.0 (ap top_t e ∙ below_top _ q _)))
   where
-    known : OptionF32
+    known : Option Float
     known = (known_of l.one (step_a l.one q.parent) q.known).width
 
     space : AvailableSpace

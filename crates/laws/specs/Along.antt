@@ -1,11 +1,9 @@
 -- Old rows that are those of a fresh layout: step by step, down to the children and along them.
-use Rattle.std.specs.Prelude.{◌≡◌, Bool, true, false, ℕ, Float}
+use Rattle.std.specs.Prelude.{◌≡◌, Bool, true, false, ℕ, Float, Option, None, Some}
 use Rattle.std.proofs.Math.Path.{refl}
 use Rattle.std.proofs.Common.{sym, ap, ◌∙◌}
 use Rattle.geometry.specs.Geometry.{zero_f}
 use Rattle.geometry.specs.declared.Point.{Point}
-use Rattle.util.specs.declared.OptionF32.{OptionF32}
-use Rattle.util.specs.declared.OptionF32.TheVariants.{None, Some}
 use Rattle.style.specs.declared.Style.{Style}
 use Rattle.tree.specs.Tree.{Tree, Forest, node, none, more, map_t, map_f, root_t, on_root}
 use Rattle.tree.proofs.Laws.{map_t_node, map_f_more, root_t_node, root_t_map, on_root_node}
@@ -36,12 +34,12 @@ abbrev pub old_f : Full → Row
 old_f l = l.both.old
 
 -- step M, one child at a time
-pub align_none : (d : OptionF32) → align_f d none ≡ none
+pub align_none : (d : Option Float) → align_f d none ≡ none
 unfolding align_f lower_f
 align_none None = refl
 align_none (Some d) = refl
 
-pub align_more : (d : OptionF32) (t : Tree Row) (ts : Forest Row) → align_f d (more t ts) ≡ more (on_root (moved d) t) (align_f d ts)
+pub align_more : (d : Option Float) (t : Tree Row) (ts : Forest Row) → align_f d (more t ts) ≡ more (on_root (moved d) t) (align_f d ts)
 unfolding align_f lower_f on_root
 align_more None (node r ks) ts = refl
 align_more (Some d) (node r ks) ts = refl
@@ -51,7 +49,7 @@ unfolding on_root zeros_t map_t
 on_zeros f r s (node a ks) e = rw e
 
 -- a placed row that is laid is moved to another place
-pub on_laid : (d : OptionF32) (p : Point) (n : ℕ) (u : Tree Row) → is_laid (root_t u) ≡ true → on_root (moved d) (on_root (put_at p n) u) ≡ on_root (put_at (moved_to d p) n) u
+pub on_laid : (d : Option Float) (p : Point Float) (n : ℕ) (u : Tree Row) → is_laid (root_t u) ≡ true → on_root (moved d) (on_root (put_at p n) u) ≡ on_root (put_at (moved_to d p) n) u
 unfolding on_root root_t
 on_laid d p n (node r ks) e = ap (λ (s : Row). node s ks) (moved_laid d p n r e)
 
@@ -74,10 +72,10 @@ module _ (st : Full → Style) (pr : Full → ProbeWords) where
   view_n l = record { site = site_by l.both.node (st l); old = no_row; probe = pr l; anew = false }
 
   -- the old rows of a subtree are those of its fresh layout, but for the place of its root; and of siblings
-  abbrev pub RowsT : Tree Full → LayoutInput → Float → Point → ℕ → Type 0
+  abbrev pub RowsT : Tree Full → LayoutInput → Float → Point Float → ℕ → Type 0
   RowsT t q found p n = map_t old_f t ≡ on_root (put_at p n) (lay_t (map_t view_n t) q found).rows
 
-  abbrev pub RowsF : Forest Full → OptionF32 → Frame → Cursor → Type 0
+  abbrev pub RowsF : Forest Full → Option Float → Frame → Cursor → Type 0
   RowsF ts d f c = map_f old_f ts ≡ align_f d (lay_f (map_f view_n ts) f c).rows
 
   root-view : (t : Tree Full) → style_t (map_t view_n t) ≡ st (root_t t)
@@ -87,7 +85,7 @@ module _ (st : Full → Style) (pr : Full → ProbeWords) where
   ask-view t q = ask_unlaid (map_t view_n t) q (ap (λ (n : Node). is_laid n.old) (root_t_map view_n t) ∙ no_row_lem)
 
   -- the root's own row
-  pub own_row : (l : Full) (ks : Forest Full) (q : LayoutInput) (found : Float) (p : Point) (n : ℕ) → RowsT (node l ks) q found p n
+  pub own_row : (l : Full) (ks : Forest Full) (q : LayoutInput) (found : Float) (p : Point Float) (n : ℕ) → RowsT (node l ks) q found p n
       → l.both.old ≡ put_at p n (laid_row q (lay_t (map_t view_n (node l ks)) q found).out (pr l))
   own_row l ks q found p n e =
       let r : root_t (lay_t (map_t view_n (node l ks)) q found).rows ≡ laid_row q (lay_t (map_t view_n (node l ks)) q found).out (pr l) =
@@ -102,37 +100,37 @@ module _ (st : Full → Style) (pr : Full → ProbeWords) where
   unfolding on_root
   kids-on f (node r us) = refl
 
-  kids-rows : (l : Full) (ks : Forest Full) (q : LayoutInput) (found : Float) (p : Point) (n : ℕ) → RowsT (node l ks) q found p n → map_f old_f ks ≡ kids_t (lay_t (node (view_n l) (map_f view_n ks)) q found).rows
+  kids-rows : (l : Full) (ks : Forest Full) (q : LayoutInput) (found : Float) (p : Point Float) (n : ℕ) → RowsT (node l ks) q found p n → map_f old_f ks ≡ kids_t (lay_t (node (view_n l) (map_f view_n ks)) q found).rows
   kids-rows l ks q found p n e =
       ap kids_t (sym (map_t_node old_f l ks) ∙ e) ∙ kids-on _ _ ∙ ap (λ (u : Tree Node). kids_t (lay_t u q found).rows) (map_t_node view_n l ks)
 
   -- down: a leaf's children have rows of zeros, a block's are stacked
-  pub down-leaf : (l : Full) (ks : Forest Full) (q : LayoutInput) (found : Float) (p : Point) (n : ℕ) → RowsT (node l ks) q found p n → is_leaf (st l).kind ≡ true → map_f old_f ks ≡ zeros_f ks
+  pub down-leaf : (l : Full) (ks : Forest Full) (q : LayoutInput) (found : Float) (p : Point Float) (n : ℕ) → RowsT (node l ks) q found p n → is_leaf (st l).kind ≡ true → map_f old_f ks ≡ zeros_f ks
   down-leaf l ks q found p n e b = kids-rows l ks q found p n e ∙ ap kids_t (leaf_rows (view_n l) (map_f view_n ks) q found b) ∙ zeros_f_lem view_n ks
 
-  pub down : (l : Full) (ks : Forest Full) (q : LayoutInput) (found : Float) (p : Point) (n : ℕ) → RowsT (node l ks) q found p n → is_leaf (st l).kind ≡ false
+  pub down : (l : Full) (ks : Forest Full) (q : LayoutInput) (found : Float) (p : Point Float) (n : ℕ) → RowsT (node l ks) q found p n → is_leaf (st l).kind ≡ false
       → RowsF ks (shift_of (view_n l) q found (stack_of (view_n l) (map_f view_n ks) q found).last) (frame_at (view_n l) q found) (start_of (frame_at (view_n l) q found))
   down l ks q found p n e b = kids-rows l ks q found p n e ∙ ap kids_t (block_rows (view_n l) (map_f view_n ks) q found b)
 
   -- along: a hidden child, one out of flow, one that is laid
-  pub record Hidden (t : Tree Full) (ts : Forest Full) (d : OptionF32) (f : Frame) (c : Cursor) : Type 0 where
+  pub record Hidden (t : Tree Full) (ts : Forest Full) (d : Option Float) (f : Frame) (c : Cursor) : Type 0 where
     pub rows : map_t old_f t ≡ on_root (λ _. hidden_row c.count) (zeros_t t)
     pub rest : RowsF ts d f (past_hidden c)
 
-  pub record Aside (t : Tree Full) (ts : Forest Full) (d : OptionF32) (f : Frame) (c : Cursor) : Type 0 where
+  pub record Aside (t : Tree Full) (ts : Forest Full) (d : Option Float) (f : Frame) (c : Cursor) : Type 0 where
     pub rows : map_t old_f t ≡ on_root (λ _. aside_row (edges_of f).start (moved_y d (line_of f c)) (edges_of f).end c.shown.0) (zeros_t t)
     pub rest : RowsF ts d f (past_aside c)
 
   abbrev pub laid_in : Tree Full → Frame → Laid
   laid_in t f = lay_t (map_t view_n t) (question_to f (st (root_t t))) zero_f
 
-  abbrev pub place_for : Tree Full → OptionF32 → Frame → Cursor → Point
+  abbrev pub place_for : Tree Full → Option Float → Frame → Cursor → Point Float
   place_for t d f c = moved_to d (place_of f c (item_of f (st (root_t t))) (laid_in t f).out)
 
   abbrev pub next_for : Tree Full → Frame → Cursor → Cursor
   next_for t f c = stepped f c (item_of f (st (root_t t))) (laid_in t f).out
 
-  pub record Shown (t : Tree Full) (ts : Forest Full) (d : OptionF32) (f : Frame) (c : Cursor) : Type 0 where
+  pub record Shown (t : Tree Full) (ts : Forest Full) (d : Option Float) (f : Frame) (c : Cursor) : Type 0 where
     pub rows : RowsT t (question_to f (st (root_t t))) zero_f (place_for t d f c) c.shown.0
     pub rest : RowsF ts d f (next_for t f c)
 
@@ -146,30 +144,30 @@ module _ (st : Full → Style) (pr : Full → ProbeWords) where
   flow-view t w e = ap flow_of (root-view t) ∙ e
 
   -- the rows of siblings, the first apart
-  pub gone-rows : (t : Tree Full) (ts : Forest Full) (d : OptionF32) (f : Frame) (c : Cursor) → flow_of (st (root_t t)) ≡ Gone
+  pub gone-rows : (t : Tree Full) (ts : Forest Full) (d : Option Float) (f : Frame) (c : Cursor) → flow_of (st (root_t t)) ≡ Gone
       → align_f d (lay_f (map_f view_n (more t ts)) f c).rows ≡ more (on_root (λ _. hidden_row c.count) (zeros_t t)) (align_f d (lay_f (map_f view_n ts) f (past_hidden c)).rows)
   unfolding skip
   gone-rows t ts d f c e =
       rw (map_f_more view_n t ts, lay_f_gone (map_t view_n t) (map_f view_n ts) f c (flow-view t Gone e), zeros_t_lem view_n t, align_more, on_zeros (moved d) _ _ t (moved_hidden d c.count))
 
-  pub out-rows : (t : Tree Full) (ts : Forest Full) (d : OptionF32) (f : Frame) (c : Cursor) → flow_of (st (root_t t)) ≡ Out
+  pub out-rows : (t : Tree Full) (ts : Forest Full) (d : Option Float) (f : Frame) (c : Cursor) → flow_of (st (root_t t)) ≡ Out
       → align_f d (lay_f (map_f view_n (more t ts)) f c).rows
       ≡ more (on_root (λ _. aside_row (edges_of f).start (moved_y d (line_of f c)) (edges_of f).end c.shown.0) (zeros_t t)) (align_f d (lay_f (map_f view_n ts) f (past_aside c)).rows)
   unfolding aside
   out-rows t ts d f c e =
       rw (map_f_more view_n t ts, lay_f_out (map_t view_n t) (map_f view_n ts) f c (flow-view t Out e), zeros_t_lem view_n t, align_more, on_zeros (moved d) _ _ t (moved_aside d (edges_of f).start (line_of f c) (edges_of f).end c.shown.0))
 
-  pub in_rows : (t : Tree Full) (ts : Forest Full) (d : OptionF32) (f : Frame) (c : Cursor) → flow_of (st (root_t t)) ≡ In
+  pub in_rows : (t : Tree Full) (ts : Forest Full) (d : Option Float) (f : Frame) (c : Cursor) → flow_of (st (root_t t)) ≡ In
       → align_f d (lay_f (map_f view_n (more t ts)) f c).rows ≡ more (on_root (put_at (place_for t d f c) c.shown.0) (laid_in t f).rows) (align_f d (lay_f (map_f view_n ts) f (next_for t f c)).rows)
   unfolding place
   in_rows t ts d f c e =
       rw (map_f_more view_n t ts, lay_f_in (map_t view_n t) (map_f view_n ts) f c (flow-view t In e), root-view t, ask-view t (question_to f (st (root_t t))), align_more, on_laid d (place_of f c (item_of f (st (root_t t))) (laid_in t f).out) c.shown.0 (laid_in t f).rows (root_laid (map_t view_n t) _ zero_f))
 
-  pub along-gone : (t : Tree Full) (ts : Forest Full) (d : OptionF32) (f : Frame) (c : Cursor) → RowsF (more t ts) d f c → flow_of (st (root_t t)) ≡ Gone → Hidden t ts d f c
+  pub along-gone : (t : Tree Full) (ts : Forest Full) (d : Option Float) (f : Frame) (c : Cursor) → RowsF (more t ts) d f c → flow_of (st (root_t t)) ≡ Gone → Hidden t ts d f c
   along-gone t ts d f c e w = record { rows = first_of t ts _ _ (e ∙ gone-rows t ts d f c w); rest = rest_of t ts _ _ (e ∙ gone-rows t ts d f c w) }
 
-  pub along-out : (t : Tree Full) (ts : Forest Full) (d : OptionF32) (f : Frame) (c : Cursor) → RowsF (more t ts) d f c → flow_of (st (root_t t)) ≡ Out → Aside t ts d f c
+  pub along-out : (t : Tree Full) (ts : Forest Full) (d : Option Float) (f : Frame) (c : Cursor) → RowsF (more t ts) d f c → flow_of (st (root_t t)) ≡ Out → Aside t ts d f c
   along-out t ts d f c e w = record { rows = first_of t ts _ _ (e ∙ out-rows t ts d f c w); rest = rest_of t ts _ _ (e ∙ out-rows t ts d f c w) }
 
-  pub along-in : (t : Tree Full) (ts : Forest Full) (d : OptionF32) (f : Frame) (c : Cursor) → RowsF (more t ts) d f c → flow_of (st (root_t t)) ≡ In → Shown t ts d f c
+  pub along-in : (t : Tree Full) (ts : Forest Full) (d : Option Float) (f : Frame) (c : Cursor) → RowsF (more t ts) d f c → flow_of (st (root_t t)) ≡ In → Shown t ts d f c
   along-in t ts d f c e w = record { rows = first_of t ts _ _ (e ∙ in_rows t ts d f c w); rest = rest_of t ts _ _ (e ∙ in_rows t ts d f c w) }

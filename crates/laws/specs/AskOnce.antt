@@ -1,14 +1,12 @@
 -- Ask once, trust it (request 14): the both-axes size question gives the root's size of a fresh layout.
-use Rattle.std.specs.Prelude.{◌≡◌, refl, Bool, true, false, cond, Float}
+use Rattle.std.specs.Option.{option_or}
+use Rattle.std.specs.Prelude.{◌≡◌, refl, Bool, true, false, cond, Float, Option, None, Some, unwrap_or}
 use Rattle.std.proofs.Common.{sym, ap, ◌∙◌}
 use Rattle.std.specs.Float.Ieee.{lt}
 use Rattle.geometry.specs.Geometry.{down}
 use Rattle.geometry.specs.declared.Size.{Size}
 use Rattle.util.specs.Math.{larger, clamped}
-use Rattle.util.specs.Maybe.{unwrap_or, or_else, floor_opt}
-use Rattle.util.specs.declared.OptionF32.{OptionF32}
-use Rattle.util.specs.declared.OptionF32.TheVariants.{None, Some}
-use Rattle.util.specs.declared.OptionSize.{OptionSize}
+use Rattle.util.specs.Maybe.{floor_opt}
 use Rattle.style.specs.Flow.{is_leaf}
 use Rattle.style.specs.declared.Style.{Style}
 use Rattle.tree.specs.Tree.{Tree, Forest, node, map_t, map_f}
@@ -47,60 +45,58 @@ twice x p = go (lt x p) refl
     go false e = rw (e, e)
 
 some_inj : (x y : Float) → Some x ≡ Some y → x ≡ y
-unfolding unwrap_or
-some_inj x y e = ap (λ (o : OptionF32). unwrap_or o x) e
+some_inj x y e = ap (λ (o : Option Float). unwrap_or o x) e
 
-floored_once : (o : OptionF32) (p h : Float) → floor_opt o p ≡ Some h → larger h p ≡ h
-unfolding floor_opt unwrap_or
+floored_once : (o : Option Float) (p h : Float) → floor_opt o p ≡ Some h → larger h p ≡ h
+unfolding floor_opt
 floored_once None p h e = cc
 floored_once (Some x) p h e =
     let z : larger x p ≡ h = some_inj (larger x p) h e in
     ap (λ (v : Float). larger v p) (sym z) ∙ twice x p ∙ z
 
-known_floored : (z : Sizing) (k : OptionSize) (h : Float) → (step_b z k).height ≡ Some h → larger h (down z.both) ≡ h
+known_floored : (z : Sizing) (k : Size (Option Float)) (h : Float) → (step_b z k).height ≡ Some h → larger h (down z.both) ≡ h
 unfolding step_b known_axis
 known_floored z k h e = floored_once _ (down z.both) h e
 
 -- ---- what a layout gives the root: content is what K finds
-abbrev pub laid_size : Sizing → OptionSize → Float → Float → Size
+abbrev pub laid_size : Sizing → Size (Option Float) → Float → Float → Size Float
 laid_size z k found content = axes (unwrap_or k.width found) (larger (unwrap_or k.height content) (down z.both))
 
 -- D, F and G agree with it
-pub rest_is : (z : Sizing) (k : OptionSize) (found content : Float) → size_below Both z k found (laid_size z k found content) ≡ laid_size z k found content
-unfolding size_below step_g unwrap_or
+pub rest_is : (z : Sizing) (k : Size (Option Float)) (found content : Float) → size_below Both z k found (laid_size z k found content) ≡ laid_size z k found content
+unfolding size_below step_g
 rest_is z k found content = go k.height refl
   where
-    go : (o : OptionF32) → k.height ≡ o → step_g Both (unwrap_or k.width found) (down z.both) k.height (laid_size z k found content) ≡ laid_size z k found content
+    go : (o : Option Float) → k.height ≡ o → step_g Both (unwrap_or k.width found) (down z.both) k.height (laid_size z k found content) ≡ laid_size z k found content
     go None e = rw e
     go (Some h) e = rw e
 
 -- a width or height that B gives is not filled by D
-pub stays : (s : Style) (z : Sizing) (b : OptionSize) (w : Float) → b.width ≡ Some w → (step_d s z b).width ≡ Some w
-unfolding step_d filled or_else
+pub stays : (s : Style) (z : Sizing) (b : Size (Option Float)) (w : Float) → b.width ≡ Some w → (step_d s z b).width ≡ Some w
+unfolding step_d filled
 stays s z b w e = rw e
 
-pub stays_tall : (s : Style) (z : Sizing) (b : OptionSize) (h : Float) → b.height ≡ Some h → (step_d s z b).height ≡ Some h
-unfolding step_d filled or_else
+pub stays_tall : (s : Style) (z : Sizing) (b : Size (Option Float)) (h : Float) → b.height ≡ Some h → (step_d s z b).height ≡ Some h
+unfolding step_d filled
 stays_tall s z b h e = rw e
 
-pub open_width : (o : OptionF32) (r : Size) → step_c Both None o r ≡ r
+pub open_width : (o : Option Float) (r : Size Float) → step_c Both None o r ≡ r
 unfolding step_c
 open_width o r = refl
 
-pub open_height : (w : Float) (r : Size) → step_c Both (Some w) None r ≡ r
+pub open_height : (w : Float) (r : Size Float) → step_c Both (Some w) None r ≡ r
 unfolding step_c width_known
 open_height w r = refl
 
-pub both_axes : (w h : Float) (r : Size) → step_c Both (Some w) (Some h) r ≡ axes w h
+pub both_axes : (w h : Float) (r : Size Float) → step_c Both (Some w) (Some h) r ≡ axes w h
 unfolding step_c width_known
 both_axes w h r = refl
 
-pub known_both : (z : Sizing) (k : OptionSize) (w h found content : Float) → (step_b z k).height ≡ Some h → axes w h ≡ axes (unwrap_or (Some w) found) (larger (unwrap_or (Some h) content) (down z.both))
-unfolding unwrap_or
+pub known_both : (z : Sizing) (k : Size (Option Float)) (w h found content : Float) → (step_b z k).height ≡ Some h → axes w h ≡ axes (unwrap_or (Some w) found) (larger (unwrap_or (Some h) content) (down z.both))
 known_both z k w h found content e = ap (axes w) (sym (known_floored z k h e))
 
 -- ---- a laid block has such a size
-pub record LaidSize (size : Size) (z : Sizing) (k : OptionSize) (found : Float) : Type 0 where
+pub record LaidSize (size : Size Float) (z : Sizing) (k : Size (Option Float)) (found : Float) : Type 0 where
   pub content : Float
   pub is : size ≡ laid_size z k found content
 
@@ -122,7 +118,7 @@ pub record RootIs (n : Node) (t : Tree Node) : Type 0 where
   pub kids : Forest Node
   pub is : t ≡ node n kids
 
-pass_by_lem : (l : Cell) (ks : Forest Cell) (k p : OptionF32) (r : Widest) → RootIs (cleared l) (pass_by l ks k p r).nodes
+pass_by_lem : (l : Cell) (ks : Forest Cell) (k p : Option Float) (r : Widest) → RootIs (cleared l) (pass_by l ks k p r).nodes
 unfolding pass_by
 pass_by_lem l ks (Some w) p r = record { kids = map_f cleared ks; is = refl }
 pass_by_lem l ks None p r = record { kids = r.nodes; is = refl }

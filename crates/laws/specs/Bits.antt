@@ -1,5 +1,5 @@
 -- What the bits of a laid row say, and what a row says of the questions noted in it.
-use Rattle.std.specs.Prelude.{◌≡◌, refl, Bool, true, false, cond, ℕ, ◌+◌, ◌*◌, ◌/◌, ◌%◌, ◌<◌, eqb, Float}
+use Rattle.std.specs.Prelude.{◌≡◌, refl, Bool, true, false, cond, ℕ, ◌+◌, ◌*◌, ◌/◌, ◌%◌, ◌<◌, eqb, Float, Option, None, Some, is_some}
 use Rattle.std.proofs.Common.{sym, ap, ◌∙◌, arith, eqb-true}
 use Rattle.std.specs.Bool.{beq}
 use Rattle.std.specs.Float.Ieee.{add}
@@ -8,9 +8,7 @@ use Rattle.geometry.specs.declared.Point.{Point}
 use Rattle.limits.specs.Limits.{same_f}
 use Rattle.limits.specs.Same.{same_is}
 use Rattle.limits.specs.Bools.{beq_is, and_fst, and_snd}
-use Rattle.util.specs.Maybe.{or_zero, is_some}
-use Rattle.util.specs.declared.OptionF32.{OptionF32}
-use Rattle.util.specs.declared.OptionF32.TheVariants.{None, Some}
+use Rattle.util.specs.Maybe.{or_zero}
 use Rattle.length.specs.Available.{definite}
 use Rattle.length.specs.declared.AvailableSpace.{AvailableSpace}
 use Rattle.length.specs.declared.AvailableSpace.TheVariants.{Definite, MinContent, MaxContent}
@@ -78,12 +76,11 @@ unfolding is_laid laid_row
 laid_row_lem q o p = rw (bits_laid o.through (is_some q.known.height) (is_some q.basis) (is_some o.baseline) p.code)
 
 -- a number that may be absent, from its number and its bit
-option_back : (o : OptionF32) → cond (is_some o) (Some (or_zero o)) None ≡ o
-unfolding is_some or_zero
+option_back : (o : Option Float) → cond (is_some o) (Some (or_zero o)) None ≡ o
 option_back None = refl
 option_back (Some x) = refl
 
-pub out_row : (q : LayoutInput) (o : LayoutOutput) (p : ProbeWords) (x : Point) (n : ℕ) → p.code < 16 → output_in (put_at x n (laid_row q o p)) ≡ o
+pub out_row : (q : LayoutInput) (o : LayoutOutput) (p : ProbeWords) (x : Point Float) (n : ℕ) → p.code < 16 → output_in (put_at x n (laid_row q o p)) ≡ o
 unfolding output_in put_at laid_row
 out_row q o p x n h =
     let lined = bits_lined o.through (is_some q.known.height) (is_some q.basis) (is_some o.baseline) p.code h in
@@ -104,49 +101,49 @@ unfolding probe_of
 row_small r = omega arith
 
 -- with other probe words: a kept row, and one below a kept row
-kept_words : (r : Row) (w p : ProbeWords) (q : LayoutInput) (o : LayoutOutput) (x y : Point) (m n : ℕ) → r ≡ put_at x m (laid_row q o p) → p.code < 16
+kept_words : (r : Row) (w p : ProbeWords) (q : LayoutInput) (o : LayoutOutput) (x y : Point Float) (m n : ℕ) → r ≡ put_at x m (laid_row q o p) → p.code < 16
     → put_at y n (noted r w (with_code r.bits w.code)) ≡ put_at y n (laid_row q o w)
 unfolding put_at noted laid_row
 kept_words r w p q o x y m n e h = rw e (rw (bits_kept o.through (is_some q.known.height) (is_some q.basis) (is_some o.baseline) p.code w.code h))
 
-pub kept_row_lem : (l : Node) (p : ProbeWords) (q : LayoutInput) (o : LayoutOutput) (x y : Point) (m n : ℕ) → l.old ≡ put_at x m (laid_row q o p) → p.code < 16
+pub kept_row_lem : (l : Node) (p : ProbeWords) (q : LayoutInput) (o : LayoutOutput) (x y : Point Float) (m n : ℕ) → l.old ≡ put_at x m (laid_row q o p) → p.code < 16
     → put_at y n (kept_row l) ≡ put_at y n (laid_row q o l.probe)
 unfolding kept_row
 kept_row_lem l p q o x y m n e h = kept_words l.old l.probe p q o x y m n e h
 
-below_words : (r : Row) (w p : ProbeWords) (q : LayoutInput) (o : LayoutOutput) (x : Point) (m : ℕ) → r ≡ put_at x m (laid_row q o p) → p.code < 16
+below_words : (r : Row) (w p : ProbeWords) (q : LayoutInput) (o : LayoutOutput) (x : Point Float) (m : ℕ) → r ≡ put_at x m (laid_row q o p) → p.code < 16
     → noted r w (laid_bits r.bits w.code) ≡ put_at x m (laid_row q o w)
 unfolding put_at noted laid_row
 below_words r w p q o x m e h = rw e (rw (bits_below o.through (is_some q.known.height) (is_some q.basis) (is_some o.baseline) p.code w.code h))
 
-pub below_row_lem : (l : Node) (p : ProbeWords) (q : LayoutInput) (o : LayoutOutput) (x : Point) (m : ℕ) → l.old ≡ put_at x m (laid_row q o p) → p.code < 16
+pub below_row_lem : (l : Node) (p : ProbeWords) (q : LayoutInput) (o : LayoutOutput) (x : Point Float) (m : ℕ) → l.old ≡ put_at x m (laid_row q o p) → p.code < 16
     → below_row l ≡ put_at x m (laid_row q o l.probe)
 unfolding below_row
 below_row_lem l p q o x m e h = below_words l.old l.probe p q o x m e h
 
 -- step M on a row that is placed
-abbrev pub moved : OptionF32 → Row → Row
+abbrev pub moved : Option Float → Row → Row
 moved None r = r
 moved (Some d) r = lowered d r
 
-abbrev pub moved_y : OptionF32 → Float → Float
+abbrev pub moved_y : Option Float → Float → Float
 moved_y None y = y
 moved_y (Some d) y = add binary32 y d
 
-abbrev pub moved_to : OptionF32 → Point → Point
+abbrev pub moved_to : Option Float → Point Float → Point Float
 moved_to d p = record { x = p.x; y = moved_y d p.y }
 
-pub moved_laid : (d : OptionF32) (p : Point) (n : ℕ) (r : Row) → is_laid r ≡ true → moved d (put_at p n r) ≡ put_at (moved_to d p) n r
+pub moved_laid : (d : Option Float) (p : Point Float) (n : ℕ) (r : Row) → is_laid r ≡ true → moved d (put_at p n r) ≡ put_at (moved_to d p) n r
 unfolding put_at lowered is_laid
 moved_laid None p n r e = refl
 moved_laid (Some d) p n r e = rw e
 
-pub moved_hidden : (d : OptionF32) (n : ℕ) → moved d (hidden_row n) ≡ hidden_row n
+pub moved_hidden : (d : Option Float) (n : ℕ) → moved d (hidden_row n) ≡ hidden_row n
 unfolding hidden_row bare lowered is_laid is_out
 moved_hidden None n = refl
 moved_hidden (Some d) n = refl
 
-pub moved_aside : (d : OptionF32) (a l e : Float) (n : ℕ) → moved d (aside_row a l e n) ≡ aside_row a (moved_y d l) e n
+pub moved_aside : (d : Option Float) (a l e : Float) (n : ℕ) → moved d (aside_row a l e n) ≡ aside_row a (moved_y d l) e n
 unfolding aside_row bare lowered is_laid is_out
 moved_aside None a l e n = refl
 moved_aside (Some d) a l e n = refl
@@ -160,25 +157,23 @@ unfolding aside_row bare is_laid
 aside_row_lem a l e n = refl
 
 -- a question that stands in a row is the question that was noted there
-option_is : (a b : OptionF32) → same_f (or_zero a) (or_zero b) ≡ true → is_some a ≡ is_some b → a ≡ b
-unfolding or_zero is_some
+option_is : (a b : Option Float) → same_f (or_zero a) (or_zero b) ≡ true → is_some a ≡ is_some b → a ≡ b
 option_is None None e f = refl
 option_is None (Some b) e f = cc
 option_is (Some a) None e f = cc
 option_is (Some a) (Some b) e f = ap Some (same_is a b e)
 
 some_is : (v w : Float) → or_zero (Some v) ≡ or_zero (Some w) → v ≡ w
-unfolding or_zero
 some_is v w e = e
 
-abbrev asks : Float → Float → OptionF32 → OptionF32 → Bool → LayoutInput
+abbrev asks : Float → Float → Option Float → Option Float → Bool → LayoutInput
 asks w i h u b =
     record { known = record { width = Some w; height = h }; parent = Some i; basis = u; definiteHeight = true; available = MaxContent; collapseStart = b; collapseEnd = b; nested = true }
 
-same_input : (v w i j : Float) (h k u x : OptionF32) (b : Bool) → v ≡ w → i ≡ j → h ≡ k → u ≡ x → asks v i h u b ≡ asks w j k x b
+same_input : (v w i j : Float) (h k u x : Option Float) (b : Bool) → v ≡ w → i ≡ j → h ≡ k → u ≡ x → asks v i h u b ≡ asks w j k x b
 same_input v w i j h k u x b p q r s = rw (p, q, r, s)
 
-pub final_is : (f g : Frame) (s : Style) (o : LayoutOutput) (p : ProbeWords) (x : Point) (n : ℕ) (r : Row) → r ≡ put_at x n (laid_row (question_to g s) o p) → p.code < 16 → final_stands (question_to f s) r ≡ true → question_to f s ≡ question_to g s
+pub final_is : (f g : Frame) (s : Style) (o : LayoutOutput) (p : ProbeWords) (x : Point Float) (n : ℕ) (r : Row) → r ≡ put_at x n (laid_row (question_to g s) o p) → p.code < 16 → final_stands (question_to f s) r ≡ true → question_to f s ≡ question_to g s
 unfolding final_stands question_to child_input put_at laid_row
 final_is f g s o p x n r e c h =
     let a = item_of f s in
@@ -229,7 +224,7 @@ unfolding probe_note
 note_small q a = code_small q
 
 space_is : (a b : AvailableSpace) → same_f (or_zero (definite a)) (or_zero (definite b)) ≡ true → available_kind a ≡ available_kind b → a ≡ b
-unfolding available_kind definite or_zero
+unfolding available_kind definite
 space_is (Definite v) (Definite w) e k = ap Definite (same_is v w e)
 space_is (Definite v) MinContent e k = cc
 space_is (Definite v) MaxContent e k = cc
@@ -240,7 +235,7 @@ space_is MaxContent (Definite w) e k = cc
 space_is MaxContent MinContent e k = cc
 space_is MaxContent MaxContent e k = refl
 
-same_probe : (a b : AvailableSpace) (h k : OptionF32) → a ≡ b → h ≡ k → ◌≡◌ {A = ProbeInput} (record { height = h; available = a }) (record { height = k; available = b })
+same_probe : (a b : AvailableSpace) (h k : Option Float) → a ≡ b → h ≡ k → ◌≡◌ {A = ProbeInput} (record { height = h; available = a }) (record { height = k; available = b })
 same_probe a b h k p q = rw (p, q)
 
 pub probe_is : (q g : ProbeInput) (a : Float) (r : Row) → probe_of r ≡ probe_note g a → probe_stands q r ≡ true → q ≡ g

@@ -1,8 +1,7 @@
 -- Not vacuous: two small pages, computed. Rows that no layout would leave show what was taken from a row and what was not.
-use Rattle.std.specs.Prelude.{◌≡◌, refl, true, false, List, [], ◌∷◌, map, ℕ, set, replicate, Float}
+use Rattle.std.specs.Prelude.{◌≡◌, refl, true, false, List, [], ◌∷◌, map, ℕ, set, replicate, Float, None, Some}
 use Rattle.std.specs.Float.Ieee.{of_bits, to_bits}
 use Rattle.std.specs.Float.{binary32}
-use Rattle.util.specs.declared.OptionF32.TheVariants.{None, Some}
 use Rattle.length.specs.declared.AvailableSpace.TheVariants.{MaxContent}
 use Rattle.style.specs.Style.{number_place}
 use Rattle.tree.specs.Tree.{Tree, node, none, more}

@@ -31,7 +31,7 @@ bare_n n = record { site = unmarked n.site; old = no_row; probe = n.probe; anew 
 -- answers that differ in the place of the root's row alone
 pub record Alike (a b : Laid) : Type 0 where
   pub same_out : a.out ≡ b.out
-  pub same_rows : (p : Point) (order : ℕ) → on_root (put_at p order) a.rows ≡ on_root (put_at p order) b.rows
+  pub same_rows : (p : Point Float) (order : ℕ) → on_root (put_at p order) a.rows ≡ on_root (put_at p order) b.rows
 
 pub alike_same : (a b : Laid) → a ≡ b → Alike a b
 alike_same a b e = record { same_out = ap (λ (l : Laid). l.out) e; same_rows = λ p o. ap (λ (l : Laid). on_root (put_at p o) l.rows) e }

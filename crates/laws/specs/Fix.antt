@@ -1,10 +1,9 @@
 -- Below a kept node: on the rows of a fresh layout of this page, what is fixed is what a layout with the new probe words gives.
-use Rattle.std.specs.Prelude.{◌≡◌, refl, Bool, true, false, ℕ, Float}
+use Rattle.std.specs.Prelude.{◌≡◌, refl, Bool, true, false, ℕ, Float, Option}
 use Rattle.std.proofs.Common.{sym, ◌∙◌}
 use Rattle.std.proofs.Math.Path.{ap}
 use Rattle.geometry.specs.Geometry.{zero_f}
 use Rattle.geometry.specs.declared.Point.{Point}
-use Rattle.util.specs.declared.OptionF32.{OptionF32}
 use Rattle.style.specs.declared.Style.{Style}
 use Rattle.tree.specs.Tree.{Tree, Forest, node, none, more, map_t, map_f, root_t, on_root}
 use Rattle.tree.proofs.Laws.{map_t_node, map_f_none, map_f_more, root_t_map, on_root_node}
@@ -109,11 +108,11 @@ unfolding zeros_f map_f
 fixed_none = fix_f_none
 
 -- fixed is what is laid out: the children of a node, a node, its siblings
-abbrev pub FixedF : Forest Full → OptionF32 → Frame → Cursor → Type 0
+abbrev pub FixedF : Forest Full → Option Float → Frame → Cursor → Type 0
 FixedF ts d f c = fix_f (map_f again_n ts) ≡ align_f d (lay_f (map_f after_n ts) f c).rows
 
-pub kids_fixed : (l : Full) (ks : Forest Full) (q : LayoutInput) (found : Float) (p : Point) (n : ℕ) → RowsT now_f old_words (node l ks) q found p n → LeavesT (map_t site_f (node l ks))
-    → ((d : OptionF32) (f : Frame) (c : Cursor) → RowsF now_f old_words ks d f c → FixedF ks d f c) → fix_f (map_f again_n ks) ≡ kids_t (lay_t (node (after_n l) (map_f after_n ks)) q found).rows
+pub kids_fixed : (l : Full) (ks : Forest Full) (q : LayoutInput) (found : Float) (p : Point Float) (n : ℕ) → RowsT now_f old_words (node l ks) q found p n → LeavesT (map_t site_f (node l ks))
+    → ((d : Option Float) (f : Frame) (c : Cursor) → RowsF now_f old_words ks d f c → FixedF ks d f c) → fix_f (map_f again_n ks) ≡ kids_t (lay_t (node (after_n l) (map_f after_n ks)) q found).rows
 unfolding LeavesT map_t
 kids_fixed l ks q found p n e v h = go (is_leaf (now_f l).kind) refl
   where
@@ -132,7 +131,7 @@ root_after l ks q found = rw (blind_t (node l ks) q found, map_t_node after_n l 
     go true e = leaf_rows (after_n l) (map_f after_n ks) q found e ∙ ap (λ (us : Forest Row). node (laid_row q (lay_t (node (after_n l) (map_f after_n ks)) q found).out l.probe) us) (sym (ap kids_t (leaf_rows (after_n l) (map_f after_n ks) q found e)))
     go false e = block_rows (after_n l) (map_f after_n ks) q found e ∙ ap (λ (us : Forest Row). node (laid_row q (lay_t (node (after_n l) (map_f after_n ks)) q found).out l.probe) us) (sym (ap kids_t (block_rows (after_n l) (map_f after_n ks) q found e)))
 
-pub fix_node : (l : Full) (ks : Forest Full) (q : LayoutInput) (found : Float) (p : Point) (n : ℕ) → RowsT now_f old_words (node l ks) q found p n → flow_of (now_f l) ≡ In
+pub fix_node : (l : Full) (ks : Forest Full) (q : LayoutInput) (found : Float) (p : Point Float) (n : ℕ) → RowsT now_f old_words (node l ks) q found p n → flow_of (now_f l) ≡ In
     → fix_f (map_f again_n ks) ≡ kids_t (lay_t (node (after_n l) (map_f after_n ks)) q found).rows → fix_t (map_t again_n (node l ks)) ≡ on_root (put_at p n) (lay_t (map_t after_n (node l ks)) q found).rows
 fix_node l ks q found p n e w h =
     ap fix_t (map_t_node again_n l ks) ∙ fix_t_at (again_n l) (map_f again_n ks) In w
@@ -167,7 +166,7 @@ fix_out (node l ks) a b c n w e =
     ∙ ap (λ (us : Forest Row). node (aside_row l.both.old.place.x l.both.old.place.y l.both.old.answer.size.width l.both.old.order) us) (zeros_f_lem again_n ks)
     ∙ ap (λ (r : Row). node (aside_row r.place.x r.place.y r.answer.size.width r.order) (zeros_f ks)) (top_zeros l ks (aside_row a b c n) e) ∙ aside_again a b c n l ks
 
-pub fixed_nothing : (d : OptionF32) (f : Frame) (c : Cursor) → FixedF none d f c
+pub fixed_nothing : (d : Option Float) (f : Frame) (c : Cursor) → FixedF none d f c
 unfolding map_f lay_f
 fixed_nothing d f c = fix_f_none ∙ sym (align_none d)
 
@@ -179,8 +178,8 @@ pub keep_out : (l : Node) (ks : Forest Node) → (keep (node l ks)).out ≡ outp
 unfolding keep
 keep_out l ks = refl
 
-pub fix_more : (t : Tree Full) (ts : Forest Full) (d : OptionF32) (f : Frame) (c : Cursor) → RowsF now_f old_words (more t ts) d f c
-    → ((q : LayoutInput) (p : Point) (n : ℕ) → RowsT now_f old_words t q zero_f p n → flow_of (now_f (root_t t)) ≡ In → fix_t (map_t again_n t) ≡ on_root (put_at p n) (lay_t (map_t after_n t) q zero_f).rows)
+pub fix_more : (t : Tree Full) (ts : Forest Full) (d : Option Float) (f : Frame) (c : Cursor) → RowsF now_f old_words (more t ts) d f c
+    → ((q : LayoutInput) (p : Point Float) (n : ℕ) → RowsT now_f old_words t q zero_f p n → flow_of (now_f (root_t t)) ≡ In → fix_t (map_t again_n t) ≡ on_root (put_at p n) (lay_t (map_t after_n t) q zero_f).rows)
     → ((e : Cursor) → RowsF now_f old_words ts d f e → FixedF ts d f e) → FixedF (more t ts) d f c
 fix_more t ts d f c e ht hts = ap fix_f (map_f_more again_n t ts) ∙ fix_f_more _ _ ∙ go (flow_of (now_f (root_t t))) refl
   where

@@ -1,9 +1,8 @@
 -- The rows of a fresh layout are sound for a relayout of any later page with an honest edit list.
-use Rattle.std.specs.Prelude.{◌≡◌, refl, Bool, true, false, not, ℕ, Float}
+use Rattle.std.specs.Prelude.{◌≡◌, refl, Bool, true, false, not, ℕ, Float, Option}
 use Rattle.std.proofs.Common.{sym, ap, ◌∙◌}
 use Rattle.geometry.specs.Geometry.{zero_f}
 use Rattle.geometry.specs.declared.Point.{Point}
-use Rattle.util.specs.declared.OptionF32.{OptionF32}
 use Rattle.limits.specs.Bools.{and_fst, and_snd}
 use Rattle.style.specs.declared.Style.{Style}
 use Rattle.tree.specs.Tree.{Tree, Forest, node, none, more, map_t, map_f, root_t, on_root}
@@ -55,10 +54,10 @@ pub top_same : (l : Full) (ks : Forest Full) → AllT Same (node l ks) → was_f
 unfolding AllT
 top_same l ks h = h.0
 
-abbrev pub Rows : Tree Full → (Full → Style) → LayoutInput → Point → ℕ → Type 0
+abbrev pub Rows : Tree Full → (Full → Style) → LayoutInput → Point Float → ℕ → Type 0
 Rows t st q p n = RowsT st old_words t q zero_f p n
 
-pub at_style : (m : Tree Row) (u : Tree Node) (g : Frame) (p : Point) (n : ℕ) (s z : Style) → s ≡ z → m ≡ on_root (put_at p n) (lay_t u (question_to g s) zero_f).rows → m ≡ on_root (put_at p n) (lay_t u (question_to g z) zero_f).rows
+pub at_style : (m : Tree Row) (u : Tree Node) (g : Frame) (p : Point Float) (n : ℕ) (s z : Style) → s ≡ z → m ≡ on_root (put_at p n) (lay_t u (question_to g s) zero_f).rows → m ≡ on_root (put_at p n) (lay_t u (question_to g z) zero_f).rows
 at_style m u g p n s z d e = rw d at e
 
 pub kept_parts : (l : Full) (ks : Forest Full) (q : LayoutInput) → kept (map_t again_n (node l ks)) q ≡ true → (any_t edited_node (map_t again_n (node l ks)) ≡ false) × (final_stands q l.both.old ≡ true)
@@ -102,16 +101,16 @@ unfolding SoundF map_f
 none_sound = tt
 
 -- down and along
-pub good_kids : (l : Full) (ks : Forest Full) (q : LayoutInput) (found : Float) (p : Point) (n : ℕ) → RowsT was_f old_words (node l ks) q found p n
-    → ((d : OptionF32) (f : Frame) (c : Cursor) → RowsF was_f old_words ks d f c → SoundF (map_f again_n ks)) → SoundF (map_f again_n ks)
+pub good_kids : (l : Full) (ks : Forest Full) (q : LayoutInput) (found : Float) (p : Point Float) (n : ℕ) → RowsT was_f old_words (node l ks) q found p n
+    → ((d : Option Float) (f : Frame) (c : Cursor) → RowsF was_f old_words ks d f c → SoundF (map_f again_n ks)) → SoundF (map_f again_n ks)
 good_kids l ks q found p n e h = go (is_leaf (was_f l).kind) refl
   where
     go : (b : Bool) → is_leaf (was_f l).kind ≡ b → SoundF (map_f again_n ks)
     go true b = off_sound_f ks (down-leaf was_f old_words l ks q found p n e b)
     go false b = h _ _ _ (down was_f old_words l ks q found p n e b)
 
-pub good_more : (t : Tree Full) (ts : Forest Full) (d : OptionF32) (f : Frame) (c : Cursor) → RowsF was_f old_words (more t ts) d f c
-    → ((p : Point) (n : ℕ) → Rows t was_f (question_to f (was_f (root_t t))) p n → SoundT (map_t again_n t)) → ((e : Cursor) → RowsF was_f old_words ts d f e → SoundF (map_f again_n ts))
+pub good_more : (t : Tree Full) (ts : Forest Full) (d : Option Float) (f : Frame) (c : Cursor) → RowsF was_f old_words (more t ts) d f c
+    → ((p : Point Float) (n : ℕ) → Rows t was_f (question_to f (was_f (root_t t))) p n → SoundT (map_t again_n t)) → ((e : Cursor) → RowsF was_f old_words ts d f e → SoundF (map_f again_n ts))
     → SoundF (map_f again_n (more t ts))
 good_more t ts d f c e ht hts = rw (map_f_more again_n t ts) (go (flow_of (was_f (root_t t))) refl)
   where

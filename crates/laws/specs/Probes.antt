@@ -1,9 +1,7 @@
 -- The probe words of a fresh layout are true for a relayout of any later page with an honest edit list.
-use Rattle.std.specs.Prelude.{◌≡◌, refl, Bool, true, false, not, Float}
+use Rattle.std.specs.Prelude.{◌≡◌, refl, Bool, true, false, not, Float, Option, None, Some}
 use Rattle.std.proofs.Common.{sym, ap, ◌∙◌}
 use Rattle.geometry.specs.Geometry.{zero_f}
-use Rattle.util.specs.declared.OptionF32.{OptionF32}
-use Rattle.util.specs.declared.OptionF32.TheVariants.{None, Some}
 use Rattle.limits.specs.Bools.{and_fst, and_snd}
 use Rattle.length.specs.declared.AvailableSpace.{AvailableSpace}
 use Rattle.style.specs.declared.Style.{Style}
@@ -55,7 +53,7 @@ asked_top : (l : Cell) (q : ProbeInput) (a : Float) (us : Forest Node) → top_t
 unfolding asked probed_anew map_t
 asked_top l q a us = refl
 
-box_top : (l : Cell) (q : ProbeInput) (ks : Forest Cell) (w : OptionF32) (r : Widest) → top_t (map_t probe_in (block_probe l q ks w r).nodes) ≡ probe_note q (block_probe l q ks w r).answer
+box_top : (l : Cell) (q : ProbeInput) (ks : Forest Cell) (w : Option Float) (r : Widest) → top_t (map_t probe_in (block_probe l q ks w r).nodes) ≡ probe_note q (block_probe l q ks w r).answer
 unfolding block_probe
 box_top l q ks None r = asked_top l q _ _
 box_top l q ks (Some w) r = asked_top l q w _
@@ -133,7 +131,7 @@ asked_kids : (l : Cell) (q : ProbeInput) (a : Float) (us : Forest Node) → kids
 unfolding asked map_t
 asked_kids l q a us = refl
 
-box_kids : (l : Cell) (g : ProbeInput) (ts : Forest Both) (w : OptionF32) (r : Widest) (x : Forest ProbeWords) → map_f words_of ts ≡ kids_t (map_t probe_in (block_probe l g (map_f before_c ts) w r).nodes)
+box_kids : (l : Cell) (g : ProbeInput) (ts : Forest Both) (w : Option Float) (r : Widest) (x : Forest ProbeWords) → map_f words_of ts ≡ kids_t (map_t probe_in (block_probe l g (map_f before_c ts) w r).nodes)
     → (map_f words_of ts ≡ map_f probe_in r.nodes → TrueF (map_f again ts)) → TrueF (map_f again ts)
 unfolding block_probe
 box_kids l g ts None r x e h = h (e ∙ asked_kids l g _ _)
@@ -180,7 +178,7 @@ good_more t ts a m e ht hts = rw (map_f_more again t ts) (go (want_of (style_c (
         done _ _ (at (want.Probe g) _ _ (probe_f_at (map_t before_c t) (map_f before_c ts) a m (want.Probe g) p)) (λ w. ht g (w ∙ ap (λ (x : Probed). map_t probe_in x.nodes) (before_reply t g)))
 
 -- the page
-pub page_true : (l : Both) (ks : Forest Both) (c : Cell) (w parent : OptionF32) (r : Widest) → map_t words_of (node l ks) ≡ map_t probe_in (pass_by c (map_f before_c ks) w parent r).nodes
+pub page_true : (l : Both) (ks : Forest Both) (c : Cell) (w parent : Option Float) (r : Widest) → map_t words_of (node l ks) ≡ map_t probe_in (pass_by c (map_f before_c ks) w parent r).nodes
     → (map_f words_of ks ≡ map_f probe_in r.nodes → TrueF (map_f again ks)) → TrueF (map_f again ks)
 unfolding pass_by cleared map_t
 page_true l ks c None parent r e h = h (ap kids_t e)

@@ -1,5 +1,6 @@
 -- Demand 3 carried to tables: trees parsed from them, and the results of the public calls.
-use Rattle.std.specs.Prelude.{◌≡◌, ℕ, Float}
+use Rattle.steps.specs.declared.Refusal.{Refusal}
+use Rattle.std.specs.Prelude.{◌≡◌, ℕ, Float, Result, Ok, ⊤}
 use mathlib.Core.List.{List, []}
 use Rattle.tree.specs.Tree.{Tree}
 use Rattle.steps.specs.Row.{Row}
@@ -7,8 +8,6 @@ use Rattle.steps.specs.Page.{page_of}
 use Rattle.steps.specs.Layout.{fresh}
 use Rattle.steps.specs.Results.{rows_out, marks_out, replied, tested}
 use Rattle.steps.specs.declared.LayoutInput.{LayoutInput}
-use Rattle.steps.specs.declared.Tested.{Tested}
-use Rattle.steps.specs.declared.Tested.TheVariants.{Pass}
 use Rattle.laws.specs.Tables.{Sound}
 
 -- rows and marks that are those of a fresh layout of a page
@@ -17,6 +16,6 @@ pub record FreshRows (ws : List ℕ) (xs : List Float) (q : LayoutInput) (rs : L
   pub rows : rs ≡ rows_out (fresh (page_of ws xs []) q).rows
   pub marks : ms ≡ marks_out (fresh (page_of ws xs []) q).rows
 
-pub reply_same : (t s : Tested) (m n : ℕ) (a b : Tree Row) (rs : List Float) (ms cw : List ℕ) (cx : List Float) → t ≡ Pass → s ≡ Pass → m ≡ n → a ≡ b
+pub reply_same : (t s : Result ⊤ Refusal) (m n : ℕ) (a b : Tree Row) (rs : List Float) (ms cw : List ℕ) (cx : List Float) → t ≡ Ok tt → s ≡ Ok tt → m ≡ n → a ≡ b
     → tested t (replied m a rs ms cw cx) rs ms cw cx ≡ tested s (replied n b rs ms cw cx) rs ms cw cx
 reply_same t s m n a b rs ms cw cx p q r e = rw (p, q, r, e)

@@ -24,7 +24,7 @@ use Rattle.laws.specs.Fix.{was_f, old_words, again_n}
 use Rattle.laws.specs.Rides.{zero_words}
 
 -- a root row is at 0, 0 and first
-abbrev pub home : Point
+abbrev pub home : Point Float
 home = record { x = zero_f; y = zero_f }
 
 home_row : (q : LayoutInput) (o : LayoutOutput) (p : ProbeWords) → laid_row q o p ≡ put_at home 0 (laid_row q o p)

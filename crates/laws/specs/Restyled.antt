@@ -1,12 +1,10 @@
 -- A change of styles that the width pass does not see: it gives every node of the changed page the same probe words.
-use Rattle.std.specs.Prelude.{◌≡◌, refl, Bool, true, false, not, Float}
+use Rattle.geometry.specs.declared.Size.{Size}
+use Rattle.std.specs.Prelude.{◌≡◌, refl, Bool, true, false, not, Float, Option, None, Some}
 use Rattle.std.proofs.Math.Path.{sym}
 use Rattle.std.proofs.Common.{ap, ◌∙◌}
 use Rattle.geometry.specs.Geometry.{zero_f}
 use Rattle.util.specs.Math.{larger}
-use Rattle.util.specs.declared.OptionF32.{OptionF32}
-use Rattle.util.specs.declared.OptionF32.TheVariants.{None, Some}
-use Rattle.util.specs.declared.OptionSize.{OptionSize}
 use Rattle.length.specs.declared.AvailableSpace.{AvailableSpace}
 use Rattle.style.specs.Flow.{is_leaf}
 use Rattle.style.specs.declared.Style.{Style}
@@ -48,9 +46,9 @@ pub record Unseen (g : Style → Style) : Type 0 where
   pub measure : (s : Style) (a : AvailableSpace) → leaf_width (g s).measure a ≡ leaf_width s.measure a
   pub want : (s : Style) (a : AvailableSpace) → want_of (g s) a ≡ want_of s a
   pub outer : (s : Style) (a : AvailableSpace) (w : Float) → outer_width (g s) a w ≡ outer_width s a w
-  pub space : (s : Style) (p : OptionF32) (a : AvailableSpace) → space_in (g s) p a ≡ space_in s p a
-  pub found : (s : Style) (p : OptionF32) (m : Float) → found_width (g s) p m ≡ found_width s p m
-  pub known : (s : Style) (p : OptionF32) (k : OptionSize) → known_of (g s) (step_a (g s) p) k ≡ known_of s (step_a s p) k
+  pub space : (s : Style) (p : Option Float) (a : AvailableSpace) → space_in (g s) p a ≡ space_in s p a
+  pub found : (s : Style) (p : Option Float) (m : Float) → found_width (g s) p m ≡ found_width s p m
+  pub known : (s : Style) (p : Option Float) (k : Size (Option Float)) → known_of (g s) (step_a (g s) p) k ≡ known_of s (step_a s p) k
 
 module _ (g : Style → Style) (unseen : Unseen g) where
   probe-known : (s : Style) (q : ProbeInput) → probe_known (g s) q ≡ probe_known s q
@@ -88,7 +86,7 @@ module _ (g : Style → Style) (unseen : Unseen g) where
   unfolding asked probed_anew map_t
   asked_by l q w us vs e = rw e
 
-  block-by : (l : Cell) (q : ProbeInput) (ks : Forest Cell) (k : OptionF32) (r : Widest) → block_probe (cell_by g l) q (map_f (cell_by g) ks) k (on_widest g r) ≡ on_probed g (block_probe l q ks k r)
+  block-by : (l : Cell) (q : ProbeInput) (ks : Forest Cell) (k : Option Float) (r : Widest) → block_probe (cell_by g l) q (map_f (cell_by g) ks) k (on_widest g r) ≡ on_probed g (block_probe l q ks k r)
   unfolding block_probe
   block-by l q ks (Some w) r = asked_by l q w _ _ (clear_f ks)
   block-by l q ks None r = rw (unseen.found l.site.style None r.most) (asked_by l q _ _ _ refl)
@@ -135,7 +133,7 @@ module _ (g : Style → Style) (unseen : Unseen g) where
     probe_f_lem (more t ts) a m = ap (λ (us : Forest Cell). probe_f us a m) (map_f_more (cell_by g) t ts) ∙ more_by t ts a m (λ q. probe_t_lem t q) (λ v. probe_f_lem ts a v)
 
   -- the whole pass
-  pass_of : (l : Cell) (ks : Forest Cell) (k p : OptionF32) (r : Widest) → pass_by (cell_by g l) (map_f (cell_by g) ks) k p (on_widest g r) ≡ on_passed g (pass_by l ks k p r)
+  pass_of : (l : Cell) (ks : Forest Cell) (k p : Option Float) (r : Widest) → pass_by (cell_by g l) (map_f (cell_by g) ks) k p (on_widest g r) ≡ on_passed g (pass_by l ks k p r)
   unfolding pass_by map_t cleared
   pass_of l ks (Some w) p r = rw (clear_f ks)
   pass_of l ks None p r = rw (unseen.found l.site.style p r.most)

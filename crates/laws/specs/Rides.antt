@@ -1,10 +1,8 @@
 -- The rows of a fresh layout hold, node by node, the probe words that the width pass left.
-use Rattle.std.specs.Prelude.{◌≡◌, refl, Bool, true, false, ℕ, ◌<◌, Float}
+use Rattle.std.specs.Prelude.{◌≡◌, refl, Bool, true, false, ℕ, ◌<◌, Float, Option, None, Some}
 use Rattle.std.proofs.Common.{sym, ap, ◌∙◌, arith}
 use Rattle.geometry.specs.Geometry.{zero_f}
 use Rattle.geometry.specs.declared.Point.{Point}
-use Rattle.util.specs.declared.OptionF32.{OptionF32}
-use Rattle.util.specs.declared.OptionF32.TheVariants.{None, Some}
 use Rattle.length.specs.declared.AvailableSpace.{AvailableSpace}
 use Rattle.style.specs.declared.Style.{Style}
 use Rattle.tree.specs.Tree.{Tree, Forest, node, none, more, map_t, map_f, root_t, on_root}
@@ -48,7 +46,7 @@ unfoldable mutual
   WellF (more t ts) = (is_in (flow_of (style_t t)) ≡ false → AllT Mute t) × WellT t × WellF ts
 
 -- probe words are no part of a place
-put_words : (p : Point) (n : ℕ) (u : Tree Row) → map_t probe_of (on_root (put_at p n) u) ≡ map_t probe_of u
+put_words : (p : Point Float) (n : ℕ) (u : Tree Row) → map_t probe_of (on_root (put_at p n) u) ≡ map_t probe_of u
 unfolding on_root map_t put_at probe_of
 put_words p n (node r ks) = refl
 
@@ -57,7 +55,7 @@ unfolding lower_f on_root map_t probe_of lowered
 low_words d none = refl
 low_words d (more (node r ks) ts) = ap (more (map_t probe_of (node r ks))) (low_words d ts)
 
-align_words : (d : OptionF32) (ts : Forest Row) → map_f probe_of (align_f d ts) ≡ map_f probe_of ts
+align_words : (d : Option Float) (ts : Forest Row) → map_f probe_of (align_f d ts) ≡ map_f probe_of ts
 unfolding align_f
 align_words None ts = refl
 align_words (Some d) ts = low_words d ts
@@ -170,7 +168,7 @@ asked_well : (l : Cell) (q : ProbeInput) (a : Float) (us : Forest Node) → (is_
 unfolding WellT asked probed_anew
 asked_well l q a us m h = (note_small q a, m, h)
 
-box_well : (l : Cell) (q : ProbeInput) (ks : Forest Cell) (w : OptionF32) (r : Widest) → is_leaf l.site.style.kind ≡ false → WellF r.nodes → WellT (block_probe l q ks w r).nodes
+box_well : (l : Cell) (q : ProbeInput) (ks : Forest Cell) (w : Option Float) (r : Widest) → is_leaf l.site.style.kind ≡ false → WellF r.nodes → WellT (block_probe l q ks w r).nodes
 unfolding block_probe
 box_well l q ks None r b h = asked_well l q _ _ (λ e. false_true _ b e) h
 box_well l q ks (Some w) r b h = asked_well l q w _ (λ e. mute_cleared_f ks) (well_cleared_f ks)
@@ -232,7 +230,7 @@ mutual
   well_f (more t ts) a m = more_well t ts a m (λ q. well_t t q) (λ k. well_f ts a k)
 
 -- the page: a root that is no leaf
-page_well : (l : Cell) (ks : Forest Cell) (w parent : OptionF32) (r : Widest) → is_leaf l.site.style.kind ≡ false → WellF r.nodes → WellT (pass_by l ks w parent r).nodes
+page_well : (l : Cell) (ks : Forest Cell) (w parent : Option Float) (r : Widest) → is_leaf l.site.style.kind ≡ false → WellF r.nodes → WellT (pass_by l ks w parent r).nodes
 unfolding WellT pass_by cleared
 page_well l ks None parent r b h = (no_code, (λ e. false_true _ b e), h)
 page_well l ks (Some w) parent r b h = (no_code, (λ e. false_true _ b e), well_cleared_f ks)

@@ -1,12 +1,11 @@
 -- Fractions inside a shrunk page (request 4). Step E as it was: children's numbers resolved once, against the known width less insets, else without basis. Where the
 -- root's width is known the final pass leaves the same as before, for any old rows: only a page that shrinks to fit differs.
-use Rattle.std.specs.Prelude.{◌≡◌, refl, Bool, true, false, Float}
+use Rattle.std.specs.Option.{option_or}
+use Rattle.geometry.specs.declared.Size.{Size}
+use Rattle.std.specs.Prelude.{◌≡◌, refl, Bool, true, false, Float, Option, None, Some, is_some, unwrap_or}
 use Rattle.std.proofs.Common.{ap, ◌∙◌}
 use Rattle.geometry.specs.Geometry.{zero_f, across}
-use Rattle.util.specs.Maybe.{is_some, unwrap_or, or_else, floor_opt, sub_opt}
-use Rattle.util.specs.declared.OptionF32.{OptionF32}
-use Rattle.util.specs.declared.OptionF32.TheVariants.{None, Some}
-use Rattle.util.specs.declared.OptionSize.{OptionSize}
+use Rattle.util.specs.Maybe.{floor_opt, sub_opt}
 use Rattle.length.specs.Length.{resolved_rect, is_auto}
 use Rattle.style.specs.Flow.{is_leaf, flow_of}
 use Rattle.style.specs.declared.Flow.{Flow}
@@ -29,12 +28,12 @@ use Rattle.steps.specs.declared.BlockItem.{BlockItem}
 use Rattle.steps.proofs.Clauses.{style_t, by_test, by_flow}
 
 -- ---- as it was: known width less insets, else no basis
-unfoldable pub basis_once : Style → LayoutInput → OptionF32
+unfoldable pub basis_once : Style → LayoutInput → Option Float
 basis_once s q =
     let z = sizing_of s q.parent q.basis in
     sub_opt (known_of s z q.known).width (across (insets s z.both))
 
-unfoldable pub item_once : Frame → OptionF32 → Style → BlockItem
+unfoldable pub item_once : Frame → Option Float → Style → BlockItem
 item_once f basis s =
     record {
       sizing = sizing_of s basis f.heightBasis;
@@ -44,7 +43,7 @@ item_once f basis s =
       offset = offset_by s.position s.inset f.rtl (Some (inner_width f)) f.heightBasis;
     }
 
-abbrev pub question_once : Frame → OptionF32 → Style → LayoutInput
+abbrev pub question_once : Frame → Option Float → Style → LayoutInput
 question_once f basis s = child_input f s (item_once f basis s)
 
 unfoldable pub place_once : Frame → BlockItem → Cursor → Laid → (Cursor → Stacked) → Stacked
@@ -62,7 +61,7 @@ unfoldable mutual
             block_laid l q f (once_f ks f (basis_once l.site.style q) (start_of f))
       ]
 
-  pub once_f : Forest Node → Frame → OptionF32 → Cursor → Stacked
+  pub once_f : Forest Node → Frame → Option Float → Cursor → Stacked
   once_f none f b c = record { last = c; rows = none }
   once_f (more t ts) f b c =
       elim (flow_of (root_t t).site.style) [
@@ -83,8 +82,7 @@ relaid_once t q =
 abbrev pub KnownWidth : Style → LayoutInput → Type 0
 KnownWidth s q = is_some (known_of s (sizing_of s q.parent q.basis) q.known).width ≡ true
 
-less_is : (o : OptionF32) (found x : Float) → is_some o ≡ true → sub_opt o x ≡ sub_opt (Some (unwrap_or o found)) x
-unfolding is_some unwrap_or
+less_is : (o : Option Float) (found x : Float) → is_some o ≡ true → sub_opt o x ≡ sub_opt (Some (unwrap_or o found)) x
 less_is None found x e = cc
 less_is (Some w) found x e = refl
 
@@ -111,8 +109,8 @@ unfolding place_once place
 place_is f c s a rest = refl
 
 -- below the root a width is asked, so it is known
-asked_known : (s : Style) (z : Sizing) (k : OptionSize) (w : Float) → k.width ≡ Some w → is_some (known_of s z k).width ≡ true
-unfolding known_of step_d filled step_b known_axis or_else floor_opt is_some
+asked_known : (s : Style) (z : Sizing) (k : Size (Option Float)) (w : Float) → k.width ≡ Some w → is_some (known_of s z k).width ≡ true
+unfolding known_of step_d filled step_b known_axis floor_opt
 asked_known s z k w e = rw e
 
 pub child_known : (f : Frame) (s : Style) → KnownWidth s (question_to f s)
@@ -134,18 +132,18 @@ once_t_at l ks q found b e = once_t_by l ks q found ∙ ap (λ (v : Bool). by_te
 abbrev pub ask_once : Tree Node → LayoutInput → Laid
 ask_once t q = by_test (kept t q) (keep t) (once_t t q zero_f)
 
-abbrev pub step_once : Tree Node → Forest Node → Frame → OptionF32 → Cursor → Stacked
+abbrev pub step_once : Tree Node → Forest Node → Frame → Option Float → Cursor → Stacked
 step_once t ts f b c = place_once f (item_once f b (style_t t)) c (ask_once t (question_once f b (style_t t))) (once_f ts f b)
 
-once_f_by : (t : Tree Node) (ts : Forest Node) (f : Frame) (b : OptionF32) (c : Cursor) → once_f (more t ts) f b c ≡ by_flow (flow_of (style_t t)) (skip c t (once_f ts f b)) (aside f c t (once_f ts f b)) (step_once t ts f b c)
+once_f_by : (t : Tree Node) (ts : Forest Node) (f : Frame) (b : Option Float) (c : Cursor) → once_f (more t ts) f b c ≡ by_flow (flow_of (style_t t)) (skip c t (once_f ts f b)) (aside f c t (once_f ts f b)) (step_once t ts f b c)
 unfolding once_f
 once_f_by t ts f b c = refl
 
-pub once_f_at : (t : Tree Node) (ts : Forest Node) (f : Frame) (b : OptionF32) (c : Cursor) (w : Flow) → flow_of (style_t t) ≡ w
+pub once_f_at : (t : Tree Node) (ts : Forest Node) (f : Frame) (b : Option Float) (c : Cursor) (w : Flow) → flow_of (style_t t) ≡ w
     → once_f (more t ts) f b c ≡ by_flow w (skip c t (once_f ts f b)) (aside f c t (once_f ts f b)) (step_once t ts f b c)
 once_f_at t ts f b c w e = once_f_by t ts f b c ∙ ap (λ (v : Flow). by_flow v (skip c t (once_f ts f b)) (aside f c t (once_f ts f b)) (step_once t ts f b c)) e
 
-pub once_f_none : (f : Frame) (b : OptionF32) (c : Cursor) → once_f none f b c ≡ record { last = c; rows = none }
+pub once_f_none : (f : Frame) (b : Option Float) (c : Cursor) → once_f none f b c ≡ record { last = c; rows = none }
 unfolding once_f
 once_f_none f b c = refl
 

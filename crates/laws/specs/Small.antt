@@ -1,9 +1,7 @@
 -- Each probe code that a width pass leaves is below 16, whatever the old rows hold: it fits its four bits.
-use Rattle.std.specs.Prelude.{◌≡◌, refl, Bool, true, false, ◌<◌, Float}
+use Rattle.std.specs.Prelude.{◌≡◌, refl, Bool, true, false, ◌<◌, Float, Option, None, Some}
 use Rattle.std.proofs.Common.{arith}
 use Rattle.geometry.specs.Geometry.{zero_f}
-use Rattle.util.specs.declared.OptionF32.{OptionF32}
-use Rattle.util.specs.declared.OptionF32.TheVariants.{None, Some}
 use Rattle.length.specs.declared.AvailableSpace.{AvailableSpace}
 use Rattle.tree.specs.Tree.{Tree, Forest, node, none, more, map_t, map_f}
 use Rattle.style.specs.Flow.{is_leaf}
@@ -41,7 +39,7 @@ asked_small : (l : Cell) (q : ProbeInput) (a : Float) (us : Forest Node) → All
 unfolding AllT asked probed_anew
 asked_small l q a us h = (note_small q a, h)
 
-box_small : (l : Cell) (q : ProbeInput) (ks : Forest Cell) (w : OptionF32) (r : Widest) → AllF Small r.nodes → AllT Small (block_probe l q ks w r).nodes
+box_small : (l : Cell) (q : ProbeInput) (ks : Forest Cell) (w : Option Float) (r : Widest) → AllF Small r.nodes → AllT Small (block_probe l q ks w r).nodes
 unfolding block_probe
 box_small l q ks None r h = asked_small l q _ _ h
 box_small l q ks (Some w) r h = asked_small l q w _ (cleared_f ks)
@@ -85,7 +83,7 @@ mutual
   small_f none a m = rw (probe_f_none a m) none_small
   small_f (more t ts) a m = more_small t ts a m (λ q. small_t t q) (λ k. small_f ts a k)
 
-page_small : (l : Cell) (ks : Forest Cell) (w parent : OptionF32) (r : Widest) → AllF Small r.nodes → AllT Small (pass_by l ks w parent r).nodes
+page_small : (l : Cell) (ks : Forest Cell) (w parent : Option Float) (r : Widest) → AllF Small r.nodes → AllT Small (pass_by l ks w parent r).nodes
 unfolding AllT pass_by
 page_small l ks None parent r h = (cleared_small l, h)
 page_small l ks (Some w) parent r h = (cleared_small l, cleared_f ks)

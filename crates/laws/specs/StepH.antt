@@ -1,13 +1,10 @@
 -- Step H is gone (request 9): it resolved padding and border again, against the parent width, else the own width. Wherever it was reached the parent width was there,
 -- so it gave A's. The final pass as it was, with H, and that it leaves the same rows, for any old rows.
-use Rattle.std.specs.Prelude.{◌≡◌, refl, Bool, true, false, Float}
+use Rattle.geometry.specs.declared.Size.{Size}
+use Rattle.std.specs.Prelude.{◌≡◌, refl, Bool, true, false, Float, Option, None, Some, is_some, unwrap_or}
 use Rattle.std.proofs.Common.{sym, ap, ◌∙◌}
 use Rattle.geometry.specs.Geometry.{zero_f, down, plus}
 use Rattle.geometry.specs.declared.Rect.{Rect}
-use Rattle.util.specs.Maybe.{is_some, unwrap_or}
-use Rattle.util.specs.declared.OptionF32.{OptionF32}
-use Rattle.util.specs.declared.OptionF32.TheVariants.{None, Some}
-use Rattle.util.specs.declared.OptionSize.{OptionSize}
 use Rattle.length.specs.Length.{resolved_rect}
 use Rattle.style.specs.Flow.{is_leaf, flow_of}
 use Rattle.style.specs.declared.Flow.{Flow}
@@ -32,11 +29,11 @@ use Rattle.steps.specs.declared.Cursor.{Cursor}
 use Rattle.steps.proofs.Clauses.{style_t, by_test, by_flow, lay_f_gone, lay_f_out, lay_f_in}
 
 -- ---- as it was. H: the basis is the parent width, else the own width
-abbrev pub basis_again : OptionF32 → Float → OptionF32
+abbrev pub basis_again : Option Float → Float → Option Float
 basis_again parent width = Some (unwrap_or parent width)
 
 -- I, with H's padding and border
-unfoldable pub step_i_again : Style → LayoutInput → Sizing → OptionSize → Float → Rect → Rect → Frame
+unfoldable pub step_i_again : Style → LayoutInput → Sizing → Size (Option Float) → Float → Rect Float → Rect Float → Frame
 step_i_again s q z known width padding border =
     record {
       width = width;
@@ -90,23 +87,22 @@ relaid_again t q =
 
 -- ---- the parent width is there: the root's is a number, and every child is asked with the inner width
 pub root_parent : (q : Question) → is_some (root_input q).parent ≡ true
-unfolding root_input is_some
+unfolding root_input
 root_parent q = refl
 
 pub child_parent : (f : Frame) (s : Style) → is_some (question_to f s).parent ≡ true
-unfolding question_to child_input is_some
+unfolding question_to child_input
 child_parent f s = refl
 
-pub same_basis : (p : OptionF32) (w : Float) → is_some p ≡ true → basis_again p w ≡ p
-unfolding is_some unwrap_or
+pub same_basis : (p : Option Float) (w : Float) → is_some p ≡ true → basis_again p w ≡ p
 same_basis None w e = cc
 same_basis (Some x) w e = refl
 
-pub both_is : (s : Style) (b h : OptionF32) → (sizing_of s b h).both ≡ plus (sizing_of s b h).padding (sizing_of s b h).border
+pub both_is : (s : Style) (b h : Option Float) → (sizing_of s b h).both ≡ plus (sizing_of s b h).padding (sizing_of s b h).border
 unfolding sizing_of sized_by
 both_is s b h = refl
 
-pub step_same : (s : Style) (q : LayoutInput) (z : Sizing) (k : OptionSize) (w : Float) → z.both ≡ plus z.padding z.border → step_i_again s q z k w z.padding z.border ≡ step_i s q z k w
+pub step_same : (s : Style) (q : LayoutInput) (z : Sizing) (k : Size (Option Float)) (w : Float) → z.both ≡ plus z.padding z.border → step_i_again s q z k w z.padding z.border ≡ step_i s q z k w
 unfolding step_i_again step_i
 step_same s q z k w e = rw (← e)
 

@@ -1,5 +1,5 @@
 -- What demand 3 supposes of lent tables, and what is to be had from the tests 1 to 5.
-use Rattle.std.specs.Prelude.{◌≡◌, Bool, false, List, [], ◌∷◌, ℕ, ◌<◌, get_or, Float}
+use Rattle.std.specs.Prelude.{◌≡◌, Bool, false, List, [], ◌∷◌, ℕ, ◌<◌, get_or, Float, Ok}
 use Rattle.style.specs.Codes.{code_at}
 use Rattle.style.specs.Style.{word_at, number_at}
 use Rattle.tree.specs.Tree.{flat_t}
@@ -8,8 +8,6 @@ use Rattle.steps.specs.Page.{named, site_at, nodes_in, page_of, cells_of}
 use Rattle.steps.specs.Noes.{layout_tested}
 use Rattle.steps.specs.Results.{layout_result, relayout_result}
 use Rattle.steps.specs.declared.LayoutInput.{LayoutInput}
-use Rattle.steps.specs.declared.Answer.TheVariants.{Done}
-use Rattle.steps.specs.declared.Tested.TheVariants.{Pass}
 use Rattle.laws.specs.Pages.{LeavesT}
 use Rattle.laws.specs.Below.{below_kept}
 
@@ -35,15 +33,15 @@ pub record Sound (ws : List ℕ) (xs : List Float) : Type 0 where
 
 -- what the tests see to: tables that pass them are a page
 pub record Checks : Type 0 where
-  pub sound : (ws : List ℕ) (xs rs : List Float) (ms cw : List ℕ) (cx : List Float) (q : LayoutInput) → layout_tested ws xs rs ms cw cx q ≡ Pass → Sound ws xs
+  pub sound : (ws : List ℕ) (xs rs : List Float) (ms cw : List ℕ) (cx : List Float) (q : LayoutInput) → layout_tested ws xs rs ms cw cx q ≡ Ok tt → Sound ws xs
 
 -- Rows that an accepted layout and accepted relayouts left, each given the rows unaltered, the same shape and an edit list that names every node changed since.
 -- `Calls ws xs q rs ms`: the last tables and question, and the rows and marks at exit.
 pub data Calls : List ℕ → List Float → LayoutInput → List Float → List ℕ → Type 0 where
-  laid_out : (ws : List ℕ) (xs rs : List Float) (ms cw : List ℕ) (cx : List Float) (q : LayoutInput) (k : ℕ) → (layout_result ws xs rs ms cw cx q).answer ≡ Done k
+  laid_out : (ws : List ℕ) (xs rs : List Float) (ms cw : List ℕ) (cx : List Float) (q : LayoutInput) (k : ℕ) → (layout_result ws xs rs ms cw cx q).answer ≡ Ok k
       → Calls ws xs q (layout_result ws xs rs ms cw cx q).rows (layout_result ws xs rs ms cw cx q).marks
   laid_again : (ws : List ℕ) (xs : List Float) (q : LayoutInput) (rs : List Float) (ms : List ℕ) (ws' : List ℕ) (xs' : List Float) (cw : List ℕ) (cx : List Float) (es : List ℕ) (p : LayoutInput) (k : ℕ) → Calls ws xs q rs ms
-      → SameShape ws ws' → Named es ws xs ws' xs' → (relayout_result ws' xs' rs ms cw cx es p).answer ≡ Done k
+      → SameShape ws ws' → Named es ws xs ws' xs' → (relayout_result ws' xs' rs ms cw cx es p).answer ≡ Ok k
       → Calls ws' xs' p (relayout_result ws' xs' rs ms cw cx es p).rows (relayout_result ws' xs' rs ms cw cx es p).marks
 
 -- node i lies strictly below a node that a relayout keeps, in the page of these tables

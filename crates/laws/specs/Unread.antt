@@ -1,9 +1,7 @@
 -- The width pass reads no style below a node that the final pass keeps.
-use Rattle.std.specs.Prelude.{◌≡◌, refl, Bool, true, false, not, Float}
+use Rattle.std.specs.Prelude.{◌≡◌, refl, Bool, true, false, not, Float, Option, None, Some}
 use Rattle.std.proofs.Common.{sym, ap, ◌∙◌}
 use Rattle.geometry.specs.Geometry.{zero_f}
-use Rattle.util.specs.declared.OptionF32.{OptionF32}
-use Rattle.util.specs.declared.OptionF32.TheVariants.{None, Some}
 use Rattle.limits.specs.Bools.{and_false}
 use Rattle.length.specs.declared.AvailableSpace.{AvailableSpace}
 use Rattle.style.specs.declared.Style.{Style}
@@ -96,7 +94,7 @@ asked_anew : (l : Cell) (q : ProbeInput) (a : Float) (us : Forest Node) → (roo
 unfolding asked probed_anew root_t
 asked_anew l q a us = refl
 
-box_anew : (l : Cell) (q : ProbeInput) (ks : Forest Cell) (w : OptionF32) (r : Widest) → (root_t (block_probe l q ks w r).nodes).anew ≡ true
+box_anew : (l : Cell) (q : ProbeInput) (ks : Forest Cell) (w : Option Float) (r : Widest) → (root_t (block_probe l q ks w r).nodes).anew ≡ true
 unfolding block_probe
 box_anew l q ks None r = asked_anew l q _ _
 box_anew l q ks (Some w) r = asked_anew l q w _
@@ -126,7 +124,7 @@ pub asked_same : (l : Cell) (q : ProbeInput) (a b : Float) (us vs : Forest Node)
 unfolding asked probed_anew map_t
 asked_same l q a b us vs p e = record { same_answer = p; same_given = rw (p, e) }
 
-pub box_same : (l : Cell) (q : ProbeInput) (ks : Forest Two) (w : OptionF32) (r s : Widest) → (w ≡ None → AlikeW r s) → AlikeP (block_probe l q (map_f page1 ks) w r) (block_probe l q (map_f page2 ks) w s)
+pub box_same : (l : Cell) (q : ProbeInput) (ks : Forest Two) (w : Option Float) (r s : Widest) → (w ≡ None → AlikeW r s) → AlikeP (block_probe l q (map_f page1 ks) w r) (block_probe l q (map_f page2 ks) w s)
 unfolding block_probe
 box_same l q ks None r s h = asked_same l q _ _ _ _ (ap (found_width l.site.style None) (h refl).same_most) (h refl).same_given
 box_same l q ks (Some w) r s h = asked_same l q w w _ _ refl (cleared_f ks)
@@ -137,7 +135,7 @@ asked_below : (l : Cell) (q : ProbeInput) (a : Float) (us : Forest Node) (g : La
 unfolding asked probed_anew
 asked_below l q a us g found e = below_block _ us g found e
 
-pub box_below : (l : Cell) (q : ProbeInput) (ks : Forest Cell) (w : OptionF32) (r : Widest) (g : LayoutInput) (found : Float) → is_leaf l.site.style.kind ≡ false → w ≡ None
+pub box_below : (l : Cell) (q : ProbeInput) (ks : Forest Cell) (w : Option Float) (r : Widest) (g : LayoutInput) (found : Float) → is_leaf l.site.style.kind ≡ false → w ≡ None
     → kids_t (below_t (block_probe l q ks w r).nodes g found) ≡ below_f r.nodes (frame_of l.site.style g found)
 unfolding block_probe
 box_below l q ks None r g found e p = asked_below l q _ r.nodes g found e
@@ -172,17 +170,17 @@ pub record AlikeG (a b : Passed) : Type 0 where
   pub same_found : a.found ≡ b.found
   pub same_given : map_t given_in a.nodes ≡ map_t given_in b.nodes
 
-pub page_same : (l : Cell) (ks : Forest Two) (w parent : OptionF32) (r s : Widest) → (w ≡ None → AlikeW r s) → AlikeG (pass_by l (map_f page1 ks) w parent r) (pass_by l (map_f page2 ks) w parent s)
+pub page_same : (l : Cell) (ks : Forest Two) (w parent : Option Float) (r s : Widest) → (w ≡ None → AlikeW r s) → AlikeG (pass_by l (map_f page1 ks) w parent r) (pass_by l (map_f page2 ks) w parent s)
 unfolding pass_by cleared map_t
 page_same l ks None parent r s h = record { same_found = rw (h refl).same_most; same_given = rw (h refl).same_given }
 page_same l ks (Some w) parent r s h = record { same_found = refl; same_given = ap (node (record { probe = no_probe; anew = false })) (cleared_f ks) }
 
-pub page_leaf : (c : Cell) (ks : Forest Cell) (w parent : OptionF32) (r : Widest) (q : LayoutInput) (found : Float) → is_leaf c.site.style.kind ≡ true → w ≡ None → kids_t (below_t (pass_by c ks w parent r).nodes q found) ≡ map_f (λ (_ : Node). false) r.nodes
+pub page_leaf : (c : Cell) (ks : Forest Cell) (w parent : Option Float) (r : Widest) (q : LayoutInput) (found : Float) → is_leaf c.site.style.kind ≡ true → w ≡ None → kids_t (below_t (pass_by c ks w parent r).nodes q found) ≡ map_f (λ (_ : Node). false) r.nodes
 unfolding pass_by cleared
 page_leaf c ks None parent r q found b p = below_leaf _ r.nodes q found b
 page_leaf c ks (Some w) parent r q found b p = cc
 
-pub page_block : (c : Cell) (ks : Forest Cell) (w parent : OptionF32) (r : Widest) (q : LayoutInput) (found : Float) → is_leaf c.site.style.kind ≡ false → w ≡ None
+pub page_block : (c : Cell) (ks : Forest Cell) (w parent : Option Float) (r : Widest) (q : LayoutInput) (found : Float) → is_leaf c.site.style.kind ≡ false → w ≡ None
     → kids_t (below_t (pass_by c ks w parent r).nodes q found) ≡ below_f r.nodes (frame_of c.site.style q found)
 unfolding pass_by cleared
 page_block c ks None parent r q found b p = below_block _ r.nodes q found b

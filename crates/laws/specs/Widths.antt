@@ -1,10 +1,8 @@
 -- The width pass: where every probe that stands holds what it would find, nothing shows that probes stood.
-use Rattle.std.specs.Prelude.{◌≡◌, refl, Bool, true, false, Float}
+use Rattle.std.specs.Prelude.{◌≡◌, refl, Bool, true, false, Float, Option, None, Some}
 use Rattle.std.proofs.Common.{sym, ap, ◌∙◌}
 use Rattle.geometry.specs.Geometry.{zero_f}
 use Rattle.util.specs.Math.{larger}
-use Rattle.util.specs.declared.OptionF32.{OptionF32}
-use Rattle.util.specs.declared.OptionF32.TheVariants.{None, Some}
 use Rattle.length.specs.declared.AvailableSpace.{AvailableSpace}
 use Rattle.style.specs.declared.Style.{Style}
 use Rattle.tree.specs.Tree.{Tree, Forest, node, none, more, map_t, map_f}
@@ -86,7 +84,7 @@ asked_alike : (l : Cell) (q : ProbeInput) (a b : Float) (ks us : Forest Node) �
 unfolding asked probed_anew map_t
 asked_alike l q a b ks us p e = record { same_answer = p; same_words = rw (p, e) }
 
-box_alike : (l : Cell) (q : ProbeInput) (ks : Forest Cell) (w : OptionF32) (r s : Widest) → AlikeW r s → AlikeP (block_probe l q ks w r) (block_probe (bare_c l) q (map_f bare_c ks) w s)
+box_alike : (l : Cell) (q : ProbeInput) (ks : Forest Cell) (w : Option Float) (r s : Widest) → AlikeW r s → AlikeP (block_probe l q ks w r) (block_probe (bare_c l) q (map_f bare_c ks) w s)
 unfolding block_probe
 box_alike l q ks None r s h = asked_alike l q _ _ _ _ (ap (found_width l.site.style None) h.same_most) h.same_words
 box_alike l q ks (Some w) r s h = asked_alike l q w w _ _ refl (sym (cleared_f bare_c ks))
@@ -135,7 +133,7 @@ pub record AlikeG (a b : Passed) : Type 0 where
   pub same_found : a.found ≡ b.found
   pub same_words : map_t probe_in a.nodes ≡ map_t probe_in b.nodes
 
-page_alike : (l : Cell) (ks : Forest Cell) (w parent : OptionF32) (r s : Widest) → AlikeW r s → AlikeG (pass_by l ks w parent r) (pass_by (bare_c l) (map_f bare_c ks) w parent s)
+page_alike : (l : Cell) (ks : Forest Cell) (w parent : Option Float) (r s : Widest) → AlikeW r s → AlikeG (pass_by l ks w parent r) (pass_by (bare_c l) (map_f bare_c ks) w parent s)
 unfolding pass_by cleared map_t
 page_alike l ks None parent r s h = record { same_found = rw h.same_most; same_words = rw h.same_words }
 page_alike l ks (Some w) parent r s h = record { same_found = refl; same_words = ap (node no_probe) (sym (cleared_f bare_c ks)) }

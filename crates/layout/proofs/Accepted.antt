@@ -1,4 +1,6 @@
 -- Tables that pass the tests are the tables of a page with its old rows, and there is room for its records.
+use Rattle.std.specs.Prelude.{Ok}
+use Rattle.steps.specs.declared.Refusal.TheVariants.{Lengths, Room}
 use mathlib.Core.Path.{◌≡◌, refl}
 use mathlib.Core.Bool.{false, not, ◌||◌}
 use mathlib.Core.List.{List, []}
@@ -14,8 +16,6 @@ use Rattle.steps.specs.Page.{Site, Cell, nodes_in, page_of}
 use Rattle.steps.specs.Candidates.{needed_t, needed_f, needed}
 use Rattle.steps.specs.Noes.{bad_tables, bad_rows, records_in, refuse_if, no5, page_tested, layout_tested, relayout_tested}
 use Rattle.steps.specs.declared.LayoutInput.{LayoutInput}
-use Rattle.steps.specs.declared.Answer.TheVariants.{Lengths, Room}
-use Rattle.steps.specs.declared.Tested.TheVariants.{Pass}
 pub use Rattle.laws.specs.Final.{unmarked}
 use Rattle.tables.specs.TreeCheck.{GoodTable}
 use Rattle.tables.proofs.Passing.{sized, then_pass_1, then_pass_2, if_pass, good_table}
@@ -35,11 +35,11 @@ unfolding bad_rows
 rows_fit ws rs ms e =
     (eqb-true _ _ (not-false _ (or_left (not (eqb (length rs) (16 * nodes_in ws))) _ e)), eqb-true _ _ (not-false _ (or_right (not (eqb (length rs) (16 * nodes_in ws))) _ e)))
 
-room_fits : (ws : List ℕ) (xs : List Float) (cw : List ℕ) (cx : List Float) → no5 ws xs cw cx ≡ Pass → needed (page_of ws xs []) ≤ min (length cw / 2) (length cx / 3)
+room_fits : (ws : List ℕ) (xs : List Float) (cw : List ℕ) (cx : List Float) → no5 ws xs cw cx ≡ Ok tt → needed (page_of ws xs []) ≤ min (length cw / 2) (length cx / 3)
 unfolding no5
 room_fits ws xs cw cx e = ltb-false _ _ (if_pass (ltb (records_in cw cx) (needed (page_of ws xs []))) Room e)
 
-pub passes : (ws : List ℕ) (xs rs : List Float) (ms cw : List ℕ) (cx : List Float) (q : LayoutInput) → layout_tested ws xs rs ms cw cx q ≡ Pass → Passes ws xs rs ms cw cx
+pub passes : (ws : List ℕ) (xs rs : List Float) (ms cw : List ℕ) (cx : List Float) (q : LayoutInput) → layout_tested ws xs rs ms cw cx q ≡ Ok tt → Passes ws xs rs ms cw cx
 unfolding layout_tested
 passes ws xs rs ms cw cx q e =
     let b = if_pass (bad_tables ws xs || bad_rows ws rs ms) Lengths (then_pass_1 (refuse_if (bad_tables ws xs || bad_rows ws rs ms) Lengths) _ e) in
@@ -55,7 +55,7 @@ passes ws xs rs ms cw cx q e =
       room = room_fits ws xs cw cx (then_pass_2 (page_tested ws xs q) _ r);
     }
 
-pub again_passes : (ws : List ℕ) (xs rs : List Float) (ms cw : List ℕ) (cx : List Float) (es : List ℕ) (q : LayoutInput) → relayout_tested ws xs rs ms cw cx es q ≡ Pass → Passes ws xs rs ms cw cx
+pub again_passes : (ws : List ℕ) (xs rs : List Float) (ms cw : List ℕ) (cx : List Float) (es : List ℕ) (q : LayoutInput) → relayout_tested ws xs rs ms cw cx es q ≡ Ok tt → Passes ws xs rs ms cw cx
 unfolding relayout_tested
 again_passes ws xs rs ms cw cx es q e = passes ws xs rs ms cw cx q (then_pass_1 (layout_tested ws xs rs ms cw cx q) _ e)
 

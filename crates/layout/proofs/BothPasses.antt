@@ -1,4 +1,7 @@
 -- The two passes one after the other are a relayout.
+use Rattle.steps.specs.declared.Refusal.{Refusal}
+use Rattle.std.specs.Prelude.{Option, None, Some, Result}
+use Rattle.tree.specs.declared.NodeId.{NodeId}
 use mathlib.Core.Path.{◌≡◌, refl, sym, ap, ◌∙◌}
 use mathlib.Core.List.{List}
 use Prim.Native.Nat.{ℕ, ◌*◌}
@@ -20,9 +23,6 @@ use Rattle.steps.specs.Scan.{lowest}
 use Rattle.steps.specs.Results.{rows_out, replied, over_limit}
 use Rattle.steps.specs.declared.LayoutInput.{LayoutInput}
 use Rattle.steps.specs.declared.LayoutOutput.{LayoutOutput}
-use Rattle.steps.specs.declared.Answer.{Answer}
-use Rattle.steps.specs.declared.Found.{Found}
-use Rattle.steps.specs.declared.Found.TheVariants.{Nowhere, At}
 use Rattle.walks.specs.Tables.{old_numbers, old_words, new_numbers, new_words, TabledT}
 use Rattle.walks.proofs.Sizes.{sizes-ofT}
 use Rattle.compute.proofs.Shape.{sizes_t, same_count_t, sizes_map, sizes_lay_t}
@@ -46,9 +46,9 @@ pub replied_lengths : (n : ℕ) (t : Tree Row) (rs rs2 : List Float) (ms ms2 : L
 unfolding replied over_limit
 replied_lengths n t rs rs2 ms ms2 pairs triples a b = go (lowest (bad_row (rows_out t)) n)
   where
-    go : (f : Found) → over_limit f t rs ms pairs triples ≡ over_limit f t rs2 ms2 pairs triples
-    go Nowhere = refl
-    go (At i) = rw (a, b)
+    go : (f : Option NodeId) → over_limit f t rs ms pairs triples ≡ over_limit f t rs2 ms2 pairs triples
+    go None = refl
+    go (Some i) = rw (a, b)
 
 module _ (ws : List ℕ) (xs rs : List Float) (ms es : List ℕ) (q : LayoutInput) (found : Float) (rs1 : List Float) (ms1 : List ℕ) (passed : probing.PassedT ws xs rs ms es q found rs1 ms1) where
   pub left-table : (t : Tree Cell) → TabledT ws xs rs ms es 0 t → TabledT ws xs rs1 ms1 es 0 (left_by t q)
@@ -87,7 +87,7 @@ module _ (ws : List ℕ) (xs rs : List Float) (ms es : List ℕ) (q : LayoutInpu
           room = room_of h.tree pairs triples h.room;
         }
 
-    pub relays : (pairs : List ℕ) (triples : List Float) (a : Answer) (rs3 : List Float) (ms3 : List ℕ) (pairs3 : List ℕ) (triples3 : List Float) → Finishes ws rs2 ms2 pairs triples a rs3 ms3 pairs3 triples3
+    pub relays : (pairs : List ℕ) (triples : List Float) (a : Result ℕ Refusal) (rs3 : List Float) (ms3 : List ℕ) (pairs3 : List ℕ) (triples3 : List Float) → Finishes ws rs2 ms2 pairs triples a rs3 ms3 pairs3 triples3
         → Relays ws xs rs ms es pairs triples q a rs3 ms3 pairs3 triples3
     relays pairs triples a rs3 ms3 pairs3 triples3 f t h r =
         let n = relaid_count t q in

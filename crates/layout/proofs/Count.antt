@@ -1,4 +1,5 @@
 -- The room that refusal 5 asks for holds every record: no layout or relayout has more candidates than are needed.
+use Rattle.std.specs.Prelude.{Option, None, Some}
 use mathlib.Core.Path.{◌≡◌, refl, sym, ap, ◌∙◌}
 use mathlib.Core.Bool.{Bool, true, false, cond, not}
 use mathlib.Core.List.{List, [], ◌∷◌, map}
@@ -9,8 +10,6 @@ use lib.Dec.{eqb}
 use lib.Ieee.{Float}
 use Rattle.geometry.specs.Geometry.{zero_f}
 use Rattle.geometry.specs.declared.Point.{Point}
-use Rattle.util.specs.declared.OptionF32.{OptionF32}
-use Rattle.util.specs.declared.OptionF32.TheVariants.{None, Some}
 use Rattle.limits.specs.Bools.{and_fst, and_snd}
 use Rattle.tree.specs.Tree.{Tree, Forest, node, none, more, count_t, map_t, map_f, on_root, root_t}
 use Rattle.style.specs.Flow.{is_leaf, flow_of}
@@ -83,7 +82,7 @@ pub low_bits : (d : Float) (r : Row) → (lowered d r).bits ≡ r.bits
 unfolding lowered
 low_bits d r = refl
 
-pub put_bits : (p : Point) (n : ℕ) (r : Row) → (put_at p n r).bits ≡ r.bits
+pub put_bits : (p : Point Float) (n : ℕ) (r : Row) → (put_at p n r).bits ≡ r.bits
 unfolding put_at
 put_bits p n r = refl
 
@@ -92,7 +91,7 @@ unfolding lower_f outs_f
 outs_low d none = refl
 outs_low d (more t ts) = rw (outs_on (lowered d) (low_bits d) t, outs_low d ts)
 
-outs_align : (d : OptionF32) (ts : Forest Row) → outs_f (align_f d ts) ≡ outs_f ts
+outs_align : (d : Option Float) (ts : Forest Row) → outs_f (align_f d ts) ≡ outs_f ts
 unfolding align_f
 outs_align None ts = refl
 outs_align (Some d) ts = outs_low d ts

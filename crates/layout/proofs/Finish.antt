@@ -1,4 +1,6 @@
 -- Refusal 8 or the candidates, in plain terms.
+use Rattle.steps.specs.declared.Refusal.TheVariants.{TooLarge}
+use Rattle.std.specs.Prelude.{Option, None, Some, Ok, Err}
 use mathlib.Core.Path.{◌≡◌, refl, sym, ap, ◌∙◌}
 use mathlib.Core.Bool.{Bool, true, false, cond}
 use mathlib.Core.List.{List, [], ◌∷◌, ◌++◌, map}
@@ -15,9 +17,6 @@ use Rattle.steps.specs.Scan.{lowest}
 use Rattle.steps.specs.Noes.{paper, bad_row}
 use Rattle.steps.specs.Candidates.{Candidate, candidate_words, candidate_numbers, candidate_of, moved_by, candidates_at, candidates, candidates_t, candidates_f}
 use Rattle.steps.specs.Results.{rows_out, marks_out, listed, on_front, accepted, over_limit, replied}
-use Rattle.steps.specs.declared.Answer.TheVariants.{Done, TooLarge}
-use Rattle.steps.specs.declared.Found.{Found}
-use Rattle.steps.specs.declared.Found.TheVariants.{Nowhere, At}
 use Rattle.steps.proofs.Listed.{length_listed}
 use Rattle.walks.specs.Tables.{new_numbers, new_words}
 use Rattle.candidates.specs.Gathered.{RowsOfT, RoomFor, GivenF, GathersF, Fronts}
@@ -40,43 +39,43 @@ marks_out_lem t = refl
 nodes_of_lem : (ws : List ℕ) (rs : List Float) (ms : List ℕ) (t : Tree Row) → RowsOfT ws rs ms t → length ws / 4 ≡ count_t t
 nodes_of_lem ws rs ms t h = omega (arith, h.words_long)
 
-found_of : (ws : List ℕ) (rs : List Float) (ms : List ℕ) (found : Found) (t : Tree Row) → RowsOfT ws rs ms t → found ≡ lowest (bad_row rs) (length ws / 4) → lowest (bad_row (rows_out t)) (count_t t) ≡ found
+found_of : (ws : List ℕ) (rs : List Float) (ms : List ℕ) (found : Option NodeId) (t : Tree Row) → RowsOfT ws rs ms t → found ≡ lowest (bad_row rs) (length ws / 4) → lowest (bad_row (rows_out t)) (count_t t) ≡ found
 found_of ws rs ms found t h e = rw (rows_out_lem t, ← h.rows_are, ← nodes_of_lem ws rs ms t h) (sym e)
 
-replied_at : (ws : List ℕ) (rs : List Float) (ms : List ℕ) (pairs : List ℕ) (triples : List Float) (found f : Found) (t : Tree Row) → RowsOfT ws rs ms t → found ≡ lowest (bad_row rs) (length ws / 4) → found ≡ f
+replied_at : (ws : List ℕ) (rs : List Float) (ms : List ℕ) (pairs : List ℕ) (triples : List Float) (found f : Option NodeId) (t : Tree Row) → RowsOfT ws rs ms t → found ≡ lowest (bad_row rs) (length ws / 4) → found ≡ f
     → replied (count_t t) t rs ms pairs triples ≡ over_limit f t rs ms pairs triples
 unfolding replied
-replied_at ws rs ms pairs triples found f t h e k = ap (λ (z : Found). over_limit z t rs ms pairs triples) (found_of ws rs ms found t h e ∙ k)
+replied_at ws rs ms pairs triples found f t h e k = ap (λ (z : Option NodeId). over_limit z t rs ms pairs triples) (found_of ws rs ms found t h e ∙ k)
 
-pub too_large : (ws : List ℕ) (rs : List Float) (ms : List ℕ) (pairs : List ℕ) (triples : List Float) (found : Found) (i : NodeId) (rs' : List Float) (ms' : List ℕ) → found ≡ lowest (bad_row rs) (length ws / 4) → found ≡ At i
-    → rs' ≡ replicate (length rs) zero_f → ms' ≡ replicate (length ms) 0 → Finishes ws rs ms pairs triples (TooLarge i) rs' ms' pairs triples
+pub too_large : (ws : List ℕ) (rs : List Float) (ms : List ℕ) (pairs : List ℕ) (triples : List Float) (found : Option NodeId) (i : NodeId) (rs' : List Float) (ms' : List ℕ) → found ≡ lowest (bad_row rs) (length ws / 4) → found ≡ Some i
+    → rs' ≡ replicate (length rs) zero_f → ms' ≡ replicate (length ms) 0 → Finishes ws rs ms pairs triples (Err (TooLarge i)) rs' ms' pairs triples
 unfolding over_limit
 too_large ws rs ms pairs triples found i rs' ms' e k hr hm t h room =
-    rw (replied_at ws rs ms pairs triples found (At i) t h e k) (record { answer_is = refl; paper_is = refl; rows_are = hr; marks_are = hm; words_are = refl; numbers_are = refl })
+    rw (replied_at ws rs ms pairs triples found (Some i) t h e k) (record { answer_is = refl; paper_is = refl; rows_are = hr; marks_are = hm; words_are = refl; numbers_are = refl })
 
 front_of : {B : Type 0} (f : Candidate → List B) (k : ℕ) → ((c : Candidate) → length (f c) ≡ k) → (l : List Candidate) (lent : List B) → listed f l ++ drop (k * length l) lent ≡ on_front (listed f l) lent
 unfolding on_front
 front_of f k each l lent = rw (length_listed f k each l)
 
 gathered : (ws : List ℕ) (rs : List Float) (ms : List ℕ) (pairs : List ℕ) (triples : List Float) (n : ℕ) (pairs' : List ℕ) (triples' : List Float) (t : Tree Row) → RowsOfT ws rs ms t → Fronts (candidates t) n pairs triples pairs' triples'
-    → Replied (accepted t pairs triples) (Done n) rs ms pairs' triples'
+    → Replied (accepted t pairs triples) (Ok n) rs ms pairs' triples'
 unfolding accepted
 gathered ws rs ms pairs triples n pairs' triples' t h f =
     record {
-      answer_is = ap Done f.count;
-      paper_is = ap (λ (k : ℕ). paper (Done k)) f.count;
+      answer_is = ap Ok f.count;
+      paper_is = ap (λ (k : ℕ). paper (Ok k)) f.count;
       rows_are = h.rows_are ∙ sym (rows_out_lem t);
       marks_are = h.marks_are ∙ sym (marks_out_lem t);
       words_are = f.pairs_are ∙ front_of candidate_words 2 (λ _. refl) (candidates t) pairs;
       numbers_are = f.triples_are ∙ front_of candidate_numbers 3 (λ _. refl) (candidates t) triples;
     }
 
-pub all_done : (ws : List ℕ) (rs : List Float) (ms : List ℕ) (pairs : List ℕ) (triples : List Float) (found : Found) (n : ℕ) (pairs' : List ℕ) (triples' : List Float) → found ≡ lowest (bad_row rs) (length ws / 4) → found ≡ Nowhere
-    → GathersF (take (length ws - 4) (drop 4 ws)) (take (length rs - 16) (drop 16 rs)) (take (length ms - 2) (drop 2 ms)) 1 pairs triples n pairs' triples' → Finishes ws rs ms pairs triples (Done n) rs ms pairs' triples'
+pub all_done : (ws : List ℕ) (rs : List Float) (ms : List ℕ) (pairs : List ℕ) (triples : List Float) (found : Option NodeId) (n : ℕ) (pairs' : List ℕ) (triples' : List Float) → found ≡ lowest (bad_row rs) (length ws / 4) → found ≡ None
+    → GathersF (take (length ws - 4) (drop 4 ws)) (take (length rs - 16) (drop 16 rs)) (take (length ms - 2) (drop 2 ms)) 1 pairs triples n pairs' triples' → Finishes ws rs ms pairs triples (Ok n) rs ms pairs' triples'
 unfolding over_limit
 all_done ws rs ms pairs triples found n pairs' triples' e k g (node r ks) h room =
     let f : Fronts (candidates (node r ks)) n pairs triples pairs' triples' = rw (cands_node r ks) (g ks (facts ws rs ms r ks h).kids (rw (cands_node r ks) at room)) in
-    rw (replied_at ws rs ms pairs triples found Nowhere (node r ks) h e k) (gathered ws rs ms pairs triples n pairs' triples' (node r ks) h f)
+    rw (replied_at ws rs ms pairs triples found None (node r ks) h e k) (gathered ws rs ms pairs triples n pairs' triples' (node r ks) h f)
 
 -- what is known of a page
 pub record Page-facts (ws : List ℕ) (rs : List Float) (ms : List ℕ) (pairs : List ℕ) (triples : List Float) : Type 0 where

@@ -1,4 +1,6 @@
 -- Accepted calls reply what the definition says.
+use Rattle.std.specs.Prelude.{Result, Ok, Err, ⊤}
+use Rattle.steps.specs.declared.Refusal.{Refusal}
 use mathlib.Core.Path.{◌≡◌, refl, sym, ap, ◌∙◌}
 use mathlib.Core.List.{List, []}
 use Prim.Native.Nat.{ℕ, ◌*◌}
@@ -15,9 +17,6 @@ use Rattle.steps.specs.Candidates.{needed}
 use Rattle.steps.specs.Noes.{layout_tested, relayout_tested}
 use Rattle.steps.specs.Results.{Reply, replied, tested, layout_result, relayout_result}
 use Rattle.steps.specs.declared.LayoutInput.{LayoutInput}
-use Rattle.steps.specs.declared.Answer.{Answer}
-use Rattle.steps.specs.declared.Tested.{Tested}
-use Rattle.steps.specs.declared.Tested.TheVariants.{Pass, Refuse}
 use Rattle.walks.specs.Tables.{site_entry, TabledT}
 use Rattle.tables.proofs.GoodPage.{good_page, good-cells, parse-relabel, page_of_cells}
 use Rattle.layout.specs.Public.{Replied, plain_site, RoomOf, IsCells, Relays}
@@ -60,7 +59,7 @@ module _ (ws : List ℕ) (xs rs : List Float) (ms cw : List ℕ) (cx : List Floa
       let n = blank-count in
       record { tree = map_t blank page; tabled = blank-tabled; deep = rw (depth_map_t blank page) (good_page ws p.good xs []).shallow; fit = omega (arith, f, n); reach = omega (arith, p.numbers_long, n); room = blank-room }
 
-  pub blank-reply : (q : LayoutInput) (a : Answer) (rs2 : List Float) (ms2 : List ℕ) (cw2 : List ℕ) (cx2 : List Float)
+  pub blank-reply : (q : LayoutInput) (a : Result ℕ Refusal) (rs2 : List Float) (ms2 : List ℕ) (cw2 : List ℕ) (cx2 : List Float)
       → Relays ws xs (replicate (length rs) zero_f) (replicate (length ms) 0) [] cw cx q a rs2 ms2 cw2 cx2 → Replied (replied (nodes_in ws) (fresh page q).rows rs ms cw cx) a rs2 ms2 cw2 cx2
   unfolding fresh
   blank-reply q a rs2 ms2 cw2 cx2 h =
@@ -104,46 +103,46 @@ module _ (ws : List ℕ) (xs rs : List Float) (ms cw : List ℕ) (cx : List Floa
       let n = cells_count in
       record { tree = cells; tabled = cells-tabled; deep = (good-cells ws p.good xs rs ms es).shallow; fit = omega (arith, f, n); reach = omega (arith, p.numbers_long, n); room = cells-room }
 
-  pub old-reply : (q : LayoutInput) (a : Answer) (rs2 : List Float) (ms2 : List ℕ) (cw2 : List ℕ) (cx2 : List Float) → Relays ws xs rs ms es cw cx q a rs2 ms2 cw2 cx2
+  pub old-reply : (q : LayoutInput) (a : Result ℕ Refusal) (rs2 : List Float) (ms2 : List ℕ) (cw2 : List ℕ) (cx2 : List Float) → Relays ws xs rs ms es cw cx q a rs2 ms2 cw2 cx2
       → Replied (replied (nodes_in ws) (relaid cells q).rows rs ms cw cx) a rs2 ms2 cw2 cx2
   old-reply q a rs2 ms2 cw2 cx2 h = let z = h cells cells-tabled cells-room in rw cells_count at z
 
 -- ---- by the tests
-refused : (t : Tested) (b : Answer) (r : Reply) (rs : List Float) (ms cw : List ℕ) (cx : List Float) → t ≡ Refuse b → Replied (tested t r rs ms cw cx) b rs ms cw cx
+refused : (t : Result ⊤ Refusal) (b : Refusal) (r : Reply) (rs : List Float) (ms cw : List ℕ) (cx : List Float) → t ≡ Err b → Replied (tested t r rs ms cw cx) (Err b) rs ms cw cx
 unfolding tested
 refused t b r rs ms cw cx e = rw e (record { answer_is = refl; paper_is = refl; rows_are = refl; marks_are = refl; words_are = refl; numbers_are = refl })
 
-passed : (t : Tested) (r : Reply) (rs : List Float) (ms cw : List ℕ) (cx : List Float) → t ≡ Pass → tested t r rs ms cw cx ≡ r
+passed : (t : Result ⊤ Refusal) (r : Reply) (rs : List Float) (ms cw : List ℕ) (cx : List Float) → t ≡ Ok tt → tested t r rs ms cw cx ≡ r
 unfolding tested
 passed t r rs ms cw cx e = rw e
 
-pub layout_refused : (ws : List ℕ) (xs rs : List Float) (ms cw : List ℕ) (cx : List Float) (q : LayoutInput) (t : Tested) (b : Answer) → t ≡ layout_tested ws xs rs ms cw cx q → t ≡ Refuse b → Replied (layout_result ws xs rs ms cw cx q) b rs ms cw cx
+pub layout_refused : (ws : List ℕ) (xs rs : List Float) (ms cw : List ℕ) (cx : List Float) (q : LayoutInput) (t : Result ⊤ Refusal) (b : Refusal) → t ≡ layout_tested ws xs rs ms cw cx q → t ≡ Err b → Replied (layout_result ws xs rs ms cw cx q) (Err b) rs ms cw cx
 unfolding layout_result
 layout_refused ws xs rs ms cw cx q t b e k = refused _ b _ rs ms cw cx (sym e ∙ k)
 
-pub layout_done : (ws : List ℕ) (xs rs : List Float) (ms cw : List ℕ) (cx : List Float) (q : LayoutInput) (t : Tested) (rs1 : List Float) (ms1 es1 : List ℕ) (a : Answer) (rs2 : List Float) (ms2 : List ℕ) (cw2 : List ℕ) (cx2 : List Float)
-    → t ≡ layout_tested ws xs rs ms cw cx q → t ≡ Pass → rs1 ≡ replicate (length rs) zero_f → ms1 ≡ replicate (length ms) 0 → es1 ≡ [] → Relays ws xs rs1 ms1 es1 cw cx q a rs2 ms2 cw2 cx2
+pub layout_done : (ws : List ℕ) (xs rs : List Float) (ms cw : List ℕ) (cx : List Float) (q : LayoutInput) (t : Result ⊤ Refusal) (rs1 : List Float) (ms1 es1 : List ℕ) (a : Result ℕ Refusal) (rs2 : List Float) (ms2 : List ℕ) (cw2 : List ℕ) (cx2 : List Float)
+    → t ≡ layout_tested ws xs rs ms cw cx q → t ≡ Ok tt → rs1 ≡ replicate (length rs) zero_f → ms1 ≡ replicate (length ms) 0 → es1 ≡ [] → Relays ws xs rs1 ms1 es1 cw cx q a rs2 ms2 cw2 cx2
     → Replied (layout_result ws xs rs ms cw cx q) a rs2 ms2 cw2 cx2
 unfolding layout_result
 layout_done ws xs rs ms cw cx q t rs1 ms1 es1 a rs2 ms2 cw2 cx2 e k er em ee h =
     let y = sym e ∙ k in
     rw (passed _ (replied (nodes_in ws) (fresh (page_of ws xs []) q).rows rs ms cw cx) rs ms cw cx y) (blank-reply ws xs rs ms cw cx (passes ws xs rs ms cw cx q y) q a rs2 ms2 cw2 cx2 (rw (er, em, ee) at h))
 
-pub layout_cells : (ws : List ℕ) (xs rs : List Float) (ms cw : List ℕ) (cx : List Float) (q : LayoutInput) (t : Tested) (rs1 : List Float) (ms1 es1 : List ℕ) → t ≡ layout_tested ws xs rs ms cw cx q → t ≡ Pass → rs1 ≡ replicate (length rs) zero_f
+pub layout_cells : (ws : List ℕ) (xs rs : List Float) (ms cw : List ℕ) (cx : List Float) (q : LayoutInput) (t : Result ⊤ Refusal) (rs1 : List Float) (ms1 es1 : List ℕ) → t ≡ layout_tested ws xs rs ms cw cx q → t ≡ Ok tt → rs1 ≡ replicate (length rs) zero_f
     → ms1 ≡ replicate (length ms) 0 → es1 ≡ [] → IsCells ws xs rs1 ms1 es1 cw cx
 layout_cells ws xs rs ms cw cx q t rs1 ms1 es1 e k er em ee = rw (er, em, ee) (blank-cells ws xs rs ms cw cx (passes ws xs rs ms cw cx q (sym e ∙ k)))
 
-pub relayout_refused : (ws : List ℕ) (xs rs : List Float) (ms cw : List ℕ) (cx : List Float) (es : List ℕ) (q : LayoutInput) (t : Tested) (b : Answer) → t ≡ relayout_tested ws xs rs ms cw cx es q → t ≡ Refuse b
-    → Replied (relayout_result ws xs rs ms cw cx es q) b rs ms cw cx
+pub relayout_refused : (ws : List ℕ) (xs rs : List Float) (ms cw : List ℕ) (cx : List Float) (es : List ℕ) (q : LayoutInput) (t : Result ⊤ Refusal) (b : Refusal) → t ≡ relayout_tested ws xs rs ms cw cx es q → t ≡ Err b
+    → Replied (relayout_result ws xs rs ms cw cx es q) (Err b) rs ms cw cx
 unfolding relayout_result
 relayout_refused ws xs rs ms cw cx es q t b e k = refused _ b _ rs ms cw cx (sym e ∙ k)
 
-pub relayout_done : (ws : List ℕ) (xs rs : List Float) (ms cw : List ℕ) (cx : List Float) (es : List ℕ) (q : LayoutInput) (t : Tested) (a : Answer) (rs2 : List Float) (ms2 : List ℕ) (cw2 : List ℕ) (cx2 : List Float) → t ≡ relayout_tested ws xs rs ms cw cx es q
-    → t ≡ Pass → Relays ws xs rs ms es cw cx q a rs2 ms2 cw2 cx2 → Replied (relayout_result ws xs rs ms cw cx es q) a rs2 ms2 cw2 cx2
+pub relayout_done : (ws : List ℕ) (xs rs : List Float) (ms cw : List ℕ) (cx : List Float) (es : List ℕ) (q : LayoutInput) (t : Result ⊤ Refusal) (a : Result ℕ Refusal) (rs2 : List Float) (ms2 : List ℕ) (cw2 : List ℕ) (cx2 : List Float) → t ≡ relayout_tested ws xs rs ms cw cx es q
+    → t ≡ Ok tt → Relays ws xs rs ms es cw cx q a rs2 ms2 cw2 cx2 → Replied (relayout_result ws xs rs ms cw cx es q) a rs2 ms2 cw2 cx2
 unfolding relayout_result
 relayout_done ws xs rs ms cw cx es q t a rs2 ms2 cw2 cx2 e k h =
     let y = sym e ∙ k in
     rw (passed _ (replied (nodes_in ws) (relaid (cells_of ws xs rs ms es) q).rows rs ms cw cx) rs ms cw cx y) (old-reply ws xs rs ms cw cx es (again_passes ws xs rs ms cw cx es q y) q a rs2 ms2 cw2 cx2 h)
 
-pub relayout_cells : (ws : List ℕ) (xs rs : List Float) (ms cw : List ℕ) (cx : List Float) (es : List ℕ) (q : LayoutInput) (t : Tested) → t ≡ relayout_tested ws xs rs ms cw cx es q → t ≡ Pass → IsCells ws xs rs ms es cw cx
+pub relayout_cells : (ws : List ℕ) (xs rs : List Float) (ms cw : List ℕ) (cx : List Float) (es : List ℕ) (q : LayoutInput) (t : Result ⊤ Refusal) → t ≡ relayout_tested ws xs rs ms cw cx es q → t ≡ Ok tt → IsCells ws xs rs ms es cw cx
 relayout_cells ws xs rs ms cw cx es q t e k = old-cells ws xs rs ms cw cx es (again_passes ws xs rs ms cw cx es q (sym e ∙ k))

@@ -1,5 +1,6 @@
 -- What the public calls promise: the answer, by its number and place too, and every word of lent memory are the definition's.
-use Rattle.std.specs.Prelude.{◌≡◌, false, List, ℕ, ◌+◌, ◌*◌, ◌≤◌, length, Float}
+use Rattle.steps.specs.declared.Refusal.{Refusal}
+use Rattle.std.specs.Prelude.{◌≡◌, false, List, ℕ, ◌+◌, ◌*◌, ◌≤◌, length, Float, Result}
 use Rattle.style.specs.Style.{plane_of}
 use Rattle.tree.specs.Tree.{Tree, count_t, depth_t, map_t}
 use Rattle.steps.specs.Row.{Row}
@@ -10,10 +11,9 @@ use Rattle.steps.specs.declared.LayoutInput.{LayoutInput}
 use Rattle.walks.specs.Tables.{TabledT}
 use Rattle.steps.specs.Noes.{paper}
 use Rattle.steps.specs.Results.{Reply, replied}
-use Rattle.steps.specs.declared.Answer.{Answer}
 use Rattle.candidates.specs.Gathered.{RowsOfT, RoomFor}
 
-pub record Replied (want : Reply) (answer : Answer) (rows : List Float) (marks : List ℕ) (pairs : List ℕ) (triples : List Float) : Type 0 where
+pub record Replied (want : Reply) (answer : Result ℕ Refusal) (rows : List Float) (marks : List ℕ) (pairs : List ℕ) (triples : List Float) : Type 0 where
   pub answer_is : answer ≡ want.answer
   pub paper_is : paper answer ≡ paper want.answer
   pub rows_are : rows ≡ want.rows
@@ -29,7 +29,7 @@ pub record IsPage (ws : List ℕ) (rs : List Float) (ms : List ℕ) (pairs : Lis
   pub room : RoomFor (candidates tree) pairs triples
 
 -- refusal 8, or the candidates, for every such tree
-abbrev pub Finishes : List ℕ → List Float → List ℕ → List ℕ → List Float → Answer → List Float → List ℕ → List ℕ → List Float → Type 0
+abbrev pub Finishes : List ℕ → List Float → List ℕ → List ℕ → List Float → Result ℕ Refusal → List Float → List ℕ → List ℕ → List Float → Type 0
 Finishes ws rs ms pairs triples a rs' ms' pairs' triples' =
     (t : Tree Row) → RowsOfT ws rs ms t → RoomFor (candidates t) pairs triples → Replied (replied (count_t t) t rs ms pairs triples) a rs' ms' pairs' triples'
 
@@ -52,6 +52,6 @@ pub record IsCells (ws : List ℕ) (xs rs : List Float) (ms es : List ℕ) (pair
   pub room : RoomOf tree pairs triples
 
 -- a relayout of every such page
-abbrev pub Relays : List ℕ → List Float → List Float → List ℕ → List ℕ → List ℕ → List Float → LayoutInput → Answer → List Float → List ℕ → List ℕ → List Float → Type 0
+abbrev pub Relays : List ℕ → List Float → List Float → List ℕ → List ℕ → List ℕ → List Float → LayoutInput → Result ℕ Refusal → List Float → List ℕ → List ℕ → List Float → Type 0
 Relays ws xs rs ms es pairs triples q a rs' ms' pairs' triples' =
     (t : Tree Cell) → TabledT ws xs rs ms es 0 t → RoomOf t pairs triples → Replied (replied (count_t t) (relaid t q).rows rs ms pairs triples) a rs' ms' pairs' triples'

@@ -9,7 +9,7 @@ ghost use Rattle.steps.specs.Question.{root_input};
 ghost use Rattle.steps.specs.Results.{layout_result, relayout_result};
 
 use compute::compute_block_layout;
-use steps::{Answer, Found, LayoutInput, Question, Tested, root_input};
+use steps::{LayoutInput, Question, Refusal, root_input};
 use tree::{MAX_DEPTH, NodeId};
 
 // Is one of the 16 numbers of row i too large?
@@ -17,30 +17,26 @@ fn row_large(rows: &[f32], i: usize) -> bool
     requires { 16 * i + 16 ≤ length rows.now }
     ensures { result ≡ bad_row rows.now i }
 {
-    let mut k = 0usize;
-    while k < style::ROW {
+    for k in 0..style::ROW {
         if limits::too_large(rows[style::ROW * i + k]) {
             return true;
         }
-        k += 1;
     }
     false
 }
 
 // The lowest of n rows that is too large.
-fn first_large(rows: &[f32], n: usize) -> Found
+fn first_large(rows: &[f32], n: usize) -> Option<NodeId>
     requires few { n ≤ 1024 }
     requires long { 16 * n ≤ length rows.now }
     ensures { result ≡ lowest (bad_row rows.now) n }
 {
-    let mut i = 0usize;
-    while i < n {
+    for i in 0..n {
         if row_large(rows, i) {
-            return Found::At(NodeId(i as u32));
+            return Some(NodeId(i as u32));
         }
-        i += 1;
     }
-    Found::Nowhere
+    None
 }
 
 // Refusal 8 with rows that turn zero, or the candidates and their count.
@@ -50,18 +46,18 @@ fn finish_page(
     marks: &mut [u32],
     pairs: &mut [u32],
     triples: &mut [f32],
-) -> Answer
+) -> Result<u32, Refusal>
     requires { IsPage words.now rows.old marks.old pairs.old triples.old }
     ensures { Finishes words.now rows.old marks.old pairs.old triples.old result rows.new marks.new pairs.new triples.new }
 {
     let found = first_large(rows, words.len() / style::WORDS);
     match found {
-        Found::At(i) => {
+        Some(i) => {
             rows::clear(rows);
             rows::clear_marks(marks);
-            Answer::TooLarge(i)
+            Err(Refusal::TooLarge(i))
         }
-        Found::Nowhere => {
+        None => {
             let n = candidates::gather(
                 &words[style::WORDS..],
                 &rows[style::ROW..],
@@ -70,7 +66,7 @@ fn finish_page(
                 pairs,
                 triples,
             );
-            Answer::Done(n as u32)
+            Ok(n as u32)
         }
     }
 }
@@ -85,7 +81,7 @@ fn relay(
     pairs: &mut [u32],
     triples: &mut [f32],
     q: LayoutInput,
-) -> Answer
+) -> Result<u32, Refusal>
     requires { IsCells words.now numbers.now rows.old marks.old edits.now pairs.old triples.old }
     ensures { Relays words.now numbers.now rows.old marks.old edits.now pairs.old triples.old q result rows.new marks.new pairs.new triples.new }
 {
@@ -103,18 +99,13 @@ fn lay_afresh(
     pairs: &mut [u32],
     triples: &mut [f32],
     q: LayoutInput,
-) -> Answer
+) -> Result<u32, Refusal>
     ensures { Replied (layout_result words.now numbers.now rows.old marks.old pairs.old triples.old q) result rows.new marks.new pairs.new triples.new }
 {
-    let t = tables::layout_tested(words, numbers, rows, marks, pairs, triples, q);
-    match t {
-        Tested::Refuse(a) => a,
-        Tested::Pass => {
-            rows::clear(rows);
-            rows::clear_marks(marks);
-            relay(words, numbers, rows, marks, &words[..0], pairs, triples, q)
-        }
-    }
+    tables::layout_tested(words, numbers, rows, marks, pairs, triples, q)?;
+    rows::clear(rows);
+    rows::clear_marks(marks);
+    relay(words, numbers, rows, marks, &words[..0], pairs, triples, q)
 }
 
 // The same from the rows as they are lent.
@@ -127,14 +118,11 @@ fn lay_again(
     triples: &mut [f32],
     edits: &[u32],
     q: LayoutInput,
-) -> Answer
+) -> Result<u32, Refusal>
     ensures { Replied (relayout_result words.now numbers.now rows.old marks.old pairs.old triples.old edits.now q) result rows.new marks.new pairs.new triples.new }
 {
-    let t = tables::relayout_tested(words, numbers, rows, marks, pairs, triples, edits, q);
-    match t {
-        Tested::Refuse(a) => a,
-        Tested::Pass => relay(words, numbers, rows, marks, edits, pairs, triples, q),
-    }
+    tables::relayout_tested(words, numbers, rows, marks, pairs, triples, edits, q)?;
+    relay(words, numbers, rows, marks, edits, pairs, triples, q)
 }
 
 // A fresh layout of a page: the rows and candidates, or a refusal.
@@ -146,7 +134,7 @@ pub fn layout(
     pairs: &mut [u32],
     triples: &mut [f32],
     q: Question,
-) -> Answer
+) -> Result<u32, Refusal>
     ensures { Replied (layout_result words.now numbers.now rows.old marks.old pairs.old triples.old (root_input q)) result rows.new marks.new pairs.new triples.new }
 {
     lay_afresh(words, numbers, rows, marks, pairs, triples, root_input(q))
@@ -162,7 +150,7 @@ pub fn relayout(
     triples: &mut [f32],
     edits: &[u32],
     q: Question,
-) -> Answer
+) -> Result<u32, Refusal>
     ensures { Replied (relayout_result words.now numbers.now rows.old marks.old pairs.old triples.old edits.now (root_input q)) result rows.new marks.new pairs.new triples.new }
 {
     lay_again(

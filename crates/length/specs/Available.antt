@@ -1,8 +1,6 @@
 -- The available width: definite, min-content or max-content.
-use Rattle.std.specs.Prelude.{Float}
+use Rattle.std.specs.Prelude.{Float, Option, None, Some}
 use Rattle.geometry.specs.Floats.{◌⊖◌}
-use Rattle.util.specs.declared.OptionF32.{OptionF32}
-use Rattle.util.specs.declared.OptionF32.TheVariants.{None, Some}
 use Rattle.length.specs.declared.AvailableSpace.{AvailableSpace}
 use Rattle.length.specs.declared.AvailableSpace.TheVariants.{Definite, MinContent, MaxContent}
 
@@ -13,7 +11,7 @@ available_less MinContent x = MinContent
 available_less MaxContent x = MaxContent
 
 -- the definite width, where there is one
-unfoldable pub definite : AvailableSpace → OptionF32
+unfoldable pub definite : AvailableSpace → Option Float
 definite (Definite a) = Some a
 definite MinContent = None
 definite MaxContent = None

@@ -5,8 +5,7 @@ ghost use Rattle.std.specs.Prelude.{◌≡◌};
 ghost use Rattle.length.specs.Length.{scaled, resolved, resolved_or_zero, is_auto, resolved_rect, resolved_size};
 ghost use Rattle.length.specs.Available.{available_less, definite};
 
-use geometry::Rect;
-use util::{OptionF32, OptionSize};
+use geometry::{Rect, Size};
 
 #[derive(Clone, Copy)]
 pub enum Length {
@@ -16,92 +15,88 @@ pub enum Length {
 }
 
 #[derive(Clone, Copy)]
-pub struct LengthRect {
-    pub top: Length,
-    pub right: Length,
-    pub bottom: Length,
-    pub left: Length,
-}
-
-#[derive(Clone, Copy)]
-pub struct LengthSize {
-    pub width: Length,
-    pub height: Length,
-}
-
-#[derive(Clone, Copy)]
 pub enum AvailableSpace {
     Definite(f32),
     MinContent,
     MaxContent,
 }
 
-fn scale(f: f32, basis: OptionF32) -> OptionF32
+// What is none where it is auto or lacks its basis.
+pub trait MaybeResolve<In, Out>: Sized {
+    fn maybe_resolve(self, basis: In) -> Out;
+}
+
+// The same with 0 for none.
+pub trait ResolveOrZero<Out>: Sized {
+    fn resolve_or_zero(self, basis: Option<f32>) -> Out;
+}
+
+#[tactic(auto, unfolding(crate::specs::Length::scaled))]
+fn scale(f: f32, basis: Option<f32>) -> Option<f32>
     ensures { result ≡ scaled f basis }
 {
-    match basis {
-        OptionF32::None => OptionF32::None,
-        OptionF32::Some(b) => OptionF32::Some(f * b),
-    }
+    basis.map(|b| f * b)
 }
 
-pub fn maybe_resolve(l: Length, basis: OptionF32) -> OptionF32
-    ensures { result ≡ resolved l basis }
-{
-    match l {
-        Length::Auto => OptionF32::None,
-        Length::Pixels(x) => OptionF32::Some(x),
-        Length::Fraction(f) => scale(f, basis),
-    }
-}
-
-pub fn resolve_or_zero(l: Length, basis: OptionF32) -> f32
-    ensures { result ≡ resolved_or_zero l basis }
-{
-    maybe_resolve(l, basis).or_zero()
-}
-
-pub fn is_auto(l: Length) -> bool
-    ensures { result ≡ is_auto l }
-{
-    match l {
-        Length::Auto => true,
-        Length::Pixels(_) => false,
-        Length::Fraction(_) => false,
-    }
-}
-
-impl LengthRect {
-    pub fn resolve_or_zero(self, basis: OptionF32) -> Rect
-        ensures { result ≡ resolved_rect self basis }
+impl Length {
+    #[tactic(auto, unfolding(crate::specs::Length::is_auto))]
+    pub fn is_auto(self) -> bool
+        ensures { result ≡ is_auto self }
     {
-        let top = self.top;
-        let right = self.right;
-        let bottom = self.bottom;
-        let left = self.left;
-        Rect {
-            top: resolve_or_zero(top, basis),
-            right: resolve_or_zero(right, basis),
-            bottom: resolve_or_zero(bottom, basis),
-            left: resolve_or_zero(left, basis),
+        matches!(self, Length::Auto)
+    }
+}
+
+impl MaybeResolve<Option<f32>, Option<f32>> for Length {
+    #[tactic(auto, unfolding(crate::specs::Length::resolved))]
+    fn maybe_resolve(self, basis: Option<f32>) -> Option<f32>
+        ensures { result ≡ resolved self basis }
+    {
+        match self {
+            Length::Auto => None,
+            Length::Pixels(x) => Some(x),
+            Length::Fraction(f) => scale(f, basis),
         }
     }
 }
 
-impl LengthSize {
-    pub fn maybe_resolve(self, across: OptionF32, down: OptionF32) -> OptionSize
-        ensures { result ≡ resolved_size self across down }
+impl ResolveOrZero<f32> for Length {
+    #[tactic(auto, unfolding(crate::specs::Length::resolved_or_zero))]
+    fn resolve_or_zero(self, basis: Option<f32>) -> f32
+        ensures { result ≡ resolved_or_zero self basis }
     {
-        let width = self.width;
-        let height = self.height;
-        OptionSize {
-            width: maybe_resolve(width, across),
-            height: maybe_resolve(height, down),
+        self.maybe_resolve(basis).unwrap_or(0.0)
+    }
+}
+
+impl ResolveOrZero<Rect<f32>> for Rect<Length> {
+    #[tactic(auto, unfolding(crate::specs::Length::resolved_rect))]
+    fn resolve_or_zero(self, basis: Option<f32>) -> Rect<f32>
+        ensures { result ≡ resolved_rect self basis }
+    {
+        Rect {
+            top: self.top.resolve_or_zero(basis),
+            right: self.right.resolve_or_zero(basis),
+            bottom: self.bottom.resolve_or_zero(basis),
+            left: self.left.resolve_or_zero(basis),
+        }
+    }
+}
+
+impl MaybeResolve<Size<Option<f32>>, Size<Option<f32>>> for Size<Length> {
+    #[tactic(auto, unfolding(crate::specs::Length::resolved_size))]
+    fn maybe_resolve(self, basis: Size<Option<f32>>) -> Size<Option<f32>>
+        ensures { result ≡ resolved_size self basis.width basis.height }
+    {
+        Size {
+            width: self.width.maybe_resolve(basis.width),
+            height: self.height.maybe_resolve(basis.height),
         }
     }
 }
 
 impl AvailableSpace {
+    #[tactic(auto, unfolding(crate::specs::Available::available_less))]
     pub fn maybe_sub(self, x: f32) -> AvailableSpace
         ensures { result ≡ available_less self x }
     {
@@ -112,13 +107,14 @@ impl AvailableSpace {
         }
     }
 
-    pub fn into_option(self) -> OptionF32
+    #[tactic(auto, unfolding(crate::specs::Available::definite))]
+    pub fn into_option(self) -> Option<f32>
         ensures { result ≡ definite self }
     {
         match self {
-            AvailableSpace::Definite(a) => OptionF32::Some(a),
-            AvailableSpace::MinContent => OptionF32::None,
-            AvailableSpace::MaxContent => OptionF32::None,
+            AvailableSpace::Definite(a) => Some(a),
+            AvailableSpace::MinContent => None,
+            AvailableSpace::MaxContent => None,
         }
     }
 }

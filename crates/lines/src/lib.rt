@@ -1,35 +1,13 @@
 // One line of the page file: its key and the values after it.
 #![tactic(auto)]
 
-ghost use Rattle.std.specs.Prelude.{◌≡◌, drop};
-ghost use Rattle.text.specs.Pieces.{split, piece_at};
+ghost use Rattle.std.specs.Prelude.{◌≡◌};
 ghost use Rattle.text.specs.Values.{hex_of, value_of};
-ghost use Rattle.lines.specs.Lines.{field_of, flag_of, known_field, nodes_line, parent_line, definite_of, avail_text, avail_line, known_line_of, known_text, known_line, flags_of, flags_text, flags_line, units_of, words_of, node_text, node_line, num_of, num_text, num_line};
+ghost use Rattle.lines.specs.Lines.{field_of, flag_of, known_field, nodes_line, parent_line, avail_text, avail_line, known_text, known_line, flags_text, flags_line, node_text, node_line, num_text, num_line};
 
+use geometry::Size;
 use length::AvailableSpace;
-use text::{Value, hex};
-use util::{OptionF32, OptionSize};
-
-// known=
-#[derive(Clone, Copy)]
-pub enum KnownLine {
-    Bad,
-    Is(OptionSize),
-}
-
-// One side of known=.
-#[derive(Clone, Copy)]
-pub enum Known {
-    Bad,
-    Is(OptionF32),
-}
-
-// avail=
-#[derive(Clone, Copy)]
-pub enum AvailLine {
-    Bad,
-    Is(AvailableSpace),
-}
+use text::hex;
 
 // The three flags of lines=.
 #[derive(Clone, Copy)]
@@ -37,13 +15,6 @@ pub struct Flags {
     pub collapseStart: bool,
     pub collapseEnd: bool,
     pub definiteHeight: bool,
-}
-
-// lines=
-#[derive(Clone, Copy)]
-pub enum FlagsLine {
-    Bad,
-    Is(Flags),
 }
 
 // The four words of a node.
@@ -55,13 +26,6 @@ pub struct NodeWords {
     pub high: u32,
 }
 
-// node=
-#[derive(Clone, Copy)]
-pub enum NodeLine {
-    Bad,
-    Is(NodeWords),
-}
-
 // A field and its number.
 #[derive(Clone, Copy)]
 pub struct FieldNumber {
@@ -69,277 +33,175 @@ pub struct FieldNumber {
     pub value: f32,
 }
 
-// num=
-#[derive(Clone, Copy)]
-pub enum NumLine {
-    Bad,
-    Is(FieldNumber),
-}
-
 // Field k as eight hex digits.
-pub fn hex_field(s: &[u8], k: usize) -> Value
+pub fn hex_field(s: &[u8], k: usize) -> Option<u32>
     ensures { result ≡ hex_of (field_of s.now k) }
 {
-    let a = text::piece_start(s, b',', k);
-    let e = text::piece_end(s, b',', a);
-    hex(&s[a..e])
+    hex(text::piece(s, b',', k))
 }
 
 // Field k as a decimal number up to the limit.
-pub fn decimal_field(s: &[u8], k: usize, limit: u32) -> Value
+pub fn decimal_field(s: &[u8], k: usize, limit: u32) -> Option<u32>
     ensures { result ≡ value_of 10 limit (field_of s.now k) }
 {
-    let a = text::piece_start(s, b',', k);
-    let e = text::piece_end(s, b',', a);
-    text::digits(&s[a..e], 10, limit)
+    text::digits(text::piece(s, b',', k), 10, limit)
 }
 
 // A known size: none, or a bit pattern.
-pub fn known_size(s: &[u8]) -> Known
+#[tactic(auto, unfolding(crate::specs::Lines::known_field, crate::specs::Lines::known_hex))]
+pub fn known_size(s: &[u8]) -> Option<Option<f32>>
     ensures { result ≡ known_field s.now }
 {
     if text::is_text(s, b"none") {
-        return Known::Is(OptionF32::None);
+        return Some(None);
     }
-    let v = hex(s);
-    match v {
-        Value::Bad => Known::Bad,
-        Value::Is(w) => Known::Is(OptionF32::Some(text::float_of(w))),
-    }
+    Some(Some(text::float_of(hex(s)?)))
 }
 
 // Field k as a known size.
-fn known_field(s: &[u8], k: usize) -> Known
+fn known_size_field(s: &[u8], k: usize) -> Option<Option<f32>>
     ensures { result ≡ known_field (field_of s.now k) }
 {
-    let a = text::piece_start(s, b',', k);
-    let e = text::piece_end(s, b',', a);
-    known_size(&s[a..e])
+    known_size(text::piece(s, b',', k))
 }
 
-// A flag: one digit, 0 or 1.
-fn flag(s: &[u8]) -> Value
-    ensures { result ≡ flag_of s.now }
-{
-    if s.len() != 1 {
-        return Value::Bad;
-    }
-    text::digits(s, 10, 1)
-}
-
-fn flag_field(s: &[u8], k: usize) -> Value
+// Field k as a flag: one digit, 0 or 1.
+#[tactic(auto, unfolding(crate::specs::Lines::flag_of))]
+fn flag_field(s: &[u8], k: usize) -> Option<u32>
     ensures { result ≡ flag_of (field_of s.now k) }
 {
-    let a = text::piece_start(s, b',', k);
-    let e = text::piece_end(s, b',', a);
-    flag(&s[a..e])
+    let digit = text::piece(s, b',', k);
+    if digit.len() != 1 {
+        return None;
+    }
+    text::digits(digit, 10, 1)
 }
 
 // nodes=
-pub fn nodes_line(s: &[u8], limit: u32) -> Value
+#[tactic(auto, unfolding(crate::specs::Lines::nodes_line))]
+pub fn nodes_line(s: &[u8], limit: u32) -> Option<u32>
     ensures { result ≡ nodes_line limit s.now }
 {
-    if text::starts_with(s, b"nodes=") {
-        return text::digits(&s[6..], 10, limit);
-    }
-    Value::Bad
+    text::digits(text::past_key(s, b"nodes=")?, 10, limit)
 }
 
 // parent=
-pub fn parent_line(s: &[u8]) -> OptionF32
+#[tactic(auto, unfolding(crate::specs::Lines::parent_line))]
+pub fn parent_line(s: &[u8]) -> Option<f32>
     ensures { result ≡ parent_line s.now }
 {
-    if text::starts_with(s, b"parent=") {
-        return text::number(hex(&s[7..]));
-    }
-    OptionF32::None
-}
-
-fn available(v: Value) -> AvailLine
-    ensures { result ≡ definite_of v }
-{
-    match v {
-        Value::Bad => AvailLine::Bad,
-        Value::Is(w) => AvailLine::Is(AvailableSpace::Definite(text::float_of(w))),
-    }
+    text::number(hex(text::past_key(s, b"parent=")?))
 }
 
 // What avail= says: min, max or a bit pattern.
-pub fn avail_text(s: &[u8]) -> AvailLine
+#[tactic(auto, unfolding(crate::specs::Lines::avail_text, crate::specs::Lines::definite_of))]
+pub fn avail_text(s: &[u8]) -> Option<AvailableSpace>
     ensures { result ≡ avail_text s.now }
 {
     if text::is_text(s, b"min") {
-        return AvailLine::Is(AvailableSpace::MinContent);
+        return Some(AvailableSpace::MinContent);
     }
     if text::is_text(s, b"max") {
-        return AvailLine::Is(AvailableSpace::MaxContent);
+        return Some(AvailableSpace::MaxContent);
     }
-    available(hex(s))
+    Some(AvailableSpace::Definite(text::float_of(hex(s)?)))
 }
 
 // avail=
-pub fn avail_line(s: &[u8]) -> AvailLine
+#[tactic(auto, unfolding(crate::specs::Lines::avail_line))]
+pub fn avail_line(s: &[u8]) -> Option<AvailableSpace>
     ensures { result ≡ avail_line s.now }
 {
-    if text::starts_with(s, b"avail=") {
-        return avail_text(&s[6..]);
-    }
-    AvailLine::Bad
+    avail_text(text::past_key(s, b"avail=")?)
 }
 
-fn known_of(w: Known, h: Known) -> KnownLine
-    ensures { result ≡ known_line_of w h }
-{
-    match w {
-        Known::Bad => KnownLine::Bad,
-        Known::Is(width) => match h {
-            Known::Bad => KnownLine::Bad,
-            Known::Is(height) => KnownLine::Is(OptionSize { width, height }),
-        },
-    }
-}
-
-fn known_text(s: &[u8]) -> KnownLine
+// What known= says: two known sizes.
+#[tactic(auto, unfolding(crate::specs::Lines::known_text, crate::specs::Lines::known_line_of))]
+fn known_text(s: &[u8]) -> Option<Size<Option<f32>>>
     ensures { result ≡ known_text s.now }
 {
     if text::separators(s, b',') != 1 {
-        return KnownLine::Bad;
+        return None;
     }
-    known_of(known_field(s, 0), known_field(s, 1))
+    Some(Size {
+        width: known_size_field(s, 0)?,
+        height: known_size_field(s, 1)?,
+    })
 }
 
 // known=
-pub fn known_line(s: &[u8]) -> KnownLine
+#[tactic(auto, unfolding(crate::specs::Lines::known_line))]
+pub fn known_line(s: &[u8]) -> Option<Size<Option<f32>>>
     ensures { result ≡ known_line s.now }
 {
-    if text::starts_with(s, b"known=") {
-        return known_text(&s[6..]);
-    }
-    KnownLine::Bad
+    known_text(text::past_key(s, b"known=")?)
 }
 
-fn flags_of(a: Value, b: Value, c: Value) -> FlagsLine
-    ensures { result ≡ flags_of a b c }
-{
-    match a {
-        Value::Bad => FlagsLine::Bad,
-        Value::Is(a) => match b {
-            Value::Bad => FlagsLine::Bad,
-            Value::Is(b) => match c {
-                Value::Bad => FlagsLine::Bad,
-                Value::Is(c) => FlagsLine::Is(Flags {
-                    collapseStart: a == 1,
-                    collapseEnd: b == 1,
-                    definiteHeight: c == 1,
-                }),
-            },
-        },
-    }
-}
-
-fn flags_text(s: &[u8]) -> FlagsLine
+// What lines= says: three flags.
+#[tactic(auto, unfolding(crate::specs::Lines::flags_text, crate::specs::Lines::flags_of))]
+fn flags_text(s: &[u8]) -> Option<Flags>
     ensures { result ≡ flags_text s.now }
 {
     if text::separators(s, b',') != 2 {
-        return FlagsLine::Bad;
+        return None;
     }
-    flags_of(flag_field(s, 0), flag_field(s, 1), flag_field(s, 2))
+    Some(Flags {
+        collapseStart: flag_field(s, 0)? == 1,
+        collapseEnd: flag_field(s, 1)? == 1,
+        definiteHeight: flag_field(s, 2)? == 1,
+    })
 }
 
 // lines=
-pub fn flags_line(s: &[u8]) -> FlagsLine
+#[tactic(auto, unfolding(crate::specs::Lines::flags_line))]
+pub fn flags_line(s: &[u8]) -> Option<Flags>
     ensures { result ≡ flags_line s.now }
 {
-    if text::starts_with(s, b"lines=") {
-        return flags_text(&s[6..]);
-    }
-    FlagsLine::Bad
+    flags_text(text::past_key(s, b"lines=")?)
 }
 
-fn units_of(size: u32, style: u32, c: Value, d: Value) -> NodeLine
-    ensures { result ≡ units_of size style c d }
-{
-    match c {
-        Value::Bad => NodeLine::Bad,
-        Value::Is(low) => match d {
-            Value::Bad => NodeLine::Bad,
-            Value::Is(high) => NodeLine::Is(NodeWords {
-                size,
-                style,
-                low,
-                high,
-            }),
-        },
-    }
-}
-
-fn words_of(a: Value, b: Value, c: Value, d: Value) -> NodeLine
-    ensures { result ≡ words_of a b c d }
-{
-    match a {
-        Value::Bad => NodeLine::Bad,
-        Value::Is(size) => match b {
-            Value::Bad => NodeLine::Bad,
-            Value::Is(style) => units_of(size, style, c, d),
-        },
-    }
-}
-
-fn node_text(s: &[u8]) -> NodeLine
+// What node= says: four words.
+#[tactic(auto, unfolding(crate::specs::Lines::node_text, crate::specs::Lines::words_of, crate::specs::Lines::units_of))]
+fn node_text(s: &[u8]) -> Option<NodeWords>
     ensures { result ≡ node_text s.now }
 {
     if text::separators(s, b',') != 3 {
-        return NodeLine::Bad;
+        return None;
     }
-    words_of(
-        hex_field(s, 0),
-        hex_field(s, 1),
-        hex_field(s, 2),
-        hex_field(s, 3),
-    )
+    Some(NodeWords {
+        size: hex_field(s, 0)?,
+        style: hex_field(s, 1)?,
+        low: hex_field(s, 2)?,
+        high: hex_field(s, 3)?,
+    })
 }
 
 // node=
-pub fn node_line(s: &[u8]) -> NodeLine
+#[tactic(auto, unfolding(crate::specs::Lines::node_line))]
+pub fn node_line(s: &[u8]) -> Option<NodeWords>
     ensures { result ≡ node_line s.now }
 {
-    if text::starts_with(s, b"node=") {
-        return node_text(&s[5..]);
-    }
-    NodeLine::Bad
-}
-
-fn num_of(f: Value, w: Value) -> NumLine
-    ensures { result ≡ num_of f w }
-{
-    match f {
-        Value::Bad => NumLine::Bad,
-        Value::Is(field) => match w {
-            Value::Bad => NumLine::Bad,
-            Value::Is(w) => NumLine::Is(FieldNumber {
-                field,
-                value: text::float_of(w),
-            }),
-        },
-    }
+    node_text(text::past_key(s, b"node=")?)
 }
 
 // What num= says: a field and a bit pattern.
-pub fn num_text(s: &[u8]) -> NumLine
+#[tactic(auto, unfolding(crate::specs::Lines::num_text, crate::specs::Lines::num_of))]
+pub fn num_text(s: &[u8]) -> Option<FieldNumber>
     ensures { result ≡ num_text s.now }
 {
     if text::separators(s, b',') != 1 {
-        return NumLine::Bad;
+        return None;
     }
-    num_of(decimal_field(s, 0, 27), hex_field(s, 1))
+    Some(FieldNumber {
+        field: decimal_field(s, 0, 27)?,
+        value: text::float_of(hex_field(s, 1)?),
+    })
 }
 
 // num=
-pub fn num_line(s: &[u8]) -> NumLine
+#[tactic(auto, unfolding(crate::specs::Lines::num_line))]
+pub fn num_line(s: &[u8]) -> Option<FieldNumber>
     ensures { result ≡ num_line s.now }
 {
-    if text::starts_with(s, b"num=") {
-        return num_text(&s[4..]);
-    }
-    NumLine::Bad
+    num_text(text::past_key(s, b"num=")?)
 }

@@ -1,5 +1,6 @@
 -- The candidate list of the public calls: at exit of an accepted layout or relayout the records name exactly the page's asides, in preorder, and the count is what refusal 5 asks room for.
-use Rattle.std.specs.Prelude.{◌≡◌, ℕ, length, Float}
+use Rattle.steps.specs.declared.Refusal.{Refusal}
+use Rattle.std.specs.Prelude.{◌≡◌, ℕ, length, Float, Result, Ok, ⊤}
 use Rattle.std.proofs.Common.{sym, ap, ◌∙◌}
 use mathlib.Core.List.{List, []}
 use Rattle.std.proofs.lemmas.List.{length-map}
@@ -11,10 +12,6 @@ use Rattle.steps.specs.Candidates.{Candidate, candidates, needed}
 use Rattle.steps.specs.Noes.{bad_row, layout_tested, relayout_tested}
 use Rattle.steps.specs.Results.{rows_out, accepted, over_limit, replied, tested, layout_result, relayout_result}
 use Rattle.steps.specs.declared.LayoutInput.{LayoutInput}
-use Rattle.steps.specs.declared.Answer.{Answer}
-use Rattle.steps.specs.declared.Answer.TheVariants.{Done}
-use Rattle.steps.specs.declared.Tested.{Tested}
-use Rattle.steps.specs.declared.Tested.TheVariants.{Pass}
 use Rattle.tables.specs.Leaves.{LeavesT}
 use Rattle.tables.specs.Refusals.{Sound}
 use Rattle.tables.specs.TreeCheck.{GoodTable}
@@ -43,9 +40,9 @@ count_by l p e = sym (length-map l (λ (c : Candidate). c.node)) ∙ ap length e
 grow_page : (ws : List ℕ) (xs : List Float) → GoodTable ws → Grows 1 (nodes_in ws) (asides (page_of ws xs []))
 grow_page ws xs good = rw (← (good_page ws good xs []).count) (asides_grow (page_of ws xs []))
 
-module _ (ws : List ℕ) (xs : List Float) (good : GoodTable ws) (u : Tested) (t : Tree Row) (rs : List Float) (ms cw : List ℕ) (cx : List Float) (a : Answer) (rs' : List Float) (ms' cw' : List ℕ) (cx' : List Float)
+module _ (ws : List ℕ) (xs : List Float) (good : GoodTable ws) (u : Result ⊤ Refusal) (t : Tree Row) (rs : List Float) (ms cw : List ℕ) (cx : List Float) (a : Result ℕ Refusal) (rs' : List Float) (ms' cw' : List ℕ) (cx' : List Float)
     (call : Replied (tested u (replied (nodes_in ws) t rs ms cw cx) rs ms cw cx) a rs' ms' cw' cx') where
-  lists-by : (k : ℕ) → u ≡ Pass → Sound (bad_row (rows_out t)) (nodes_in ws) → k ≡ length (candidates t) → nodes_of (candidates t) ≡ asides (page_of ws xs []) → Lists ws xs k cw cx cw' cx'
+  lists-by : (k : ℕ) → u ≡ Ok tt → Sound (bad_row (rows_out t)) (nodes_in ws) → k ≡ length (candidates t) → nodes_of (candidates t) ≡ asides (page_of ws xs []) → Lists ws xs k cw cx cw' cx'
   unfolding tested replied over_limit accepted
   lists-by k pass small e m =
       let c = rw (pass, nowhere-lowest (bad_row (rows_out t)) (nodes_in ws) small) at call in
@@ -62,27 +59,27 @@ module _ (ws : List ℕ) (xs : List Float) (good : GoodTable ws) (u : Tested) (t
 
 module _ (ws : List ℕ) (xs rs : List Float) (ms cw : List ℕ) (cx : List Float) (q : LayoutInput) where
   -- the candidates of a layout that passes the tests
-  pub layout-nodes : layout_tested ws xs rs ms cw cx q ≡ Pass → nodes_of (candidates (fresh (page_of ws xs []) q).rows) ≡ asides (page_of ws xs [])
+  pub layout-nodes : layout_tested ws xs rs ms cw cx q ≡ Ok tt → nodes_of (candidates (fresh (page_of ws xs []) q).rows) ≡ asides (page_of ws xs [])
   unfolding fresh
   layout-nodes pass = nodes_by (map_t blank (page_of ws xs [])) q (page_of ws xs []) (blank_page ws xs) (good_page ws (passes ws xs rs ms cw cx q pass).good xs []).leaves
 
   -- an accepted layout
-  pub layout-lists : (k : ℕ) (a : Answer) (rs' : List Float) (ms' cw' : List ℕ) (cx' : List Float) → Replied (layout_result ws xs rs ms cw cx q) a rs' ms' cw' cx' → a ≡ Done k → Lists ws xs k cw cx cw' cx'
+  pub layout-lists : (k : ℕ) (a : Result ℕ Refusal) (rs' : List Float) (ms' cw' : List ℕ) (cx' : List Float) → Replied (layout_result ws xs rs ms cw cx q) a rs' ms' cw' cx' → a ≡ Ok k → Lists ws xs k cw cx cw' cx'
   unfolding layout_result
   layout-lists k a rs' ms' cw' cx' call e =
-      let g = (layout-gives ws xs rs ms cw cx q a rs' ms' cw' cx' call (Done k)).only e in
-      let pass = (layout-exactly ws xs rs ms cw cx q Pass).given g.0 in
+      let g = (layout-gives ws xs rs ms cw cx q a rs' ms' cw' cx' call (Ok k)).only e in
+      let pass = (layout-exactly ws xs rs ms cw cx q (Ok tt)).given g.0 in
       lists-by ws xs (passes ws xs rs ms cw cx q pass).good (layout_tested ws xs rs ms cw cx q) (fresh (page_of ws xs []) q).rows rs ms cw cx a rs' ms' cw' cx' call k pass g.1 g.2 (layout-nodes pass)
 
 module _ (ws : List ℕ) (xs rs : List Float) (ms cw : List ℕ) (cx : List Float) (es : List ℕ) (q : LayoutInput) where
   -- the candidates of a relayout that passes the tests, whatever the old rows
-  pub relayout-nodes : relayout_tested ws xs rs ms cw cx es q ≡ Pass → nodes_of (candidates (relaid (cells_of ws xs rs ms es) q).rows) ≡ asides (page_of ws xs [])
+  pub relayout-nodes : relayout_tested ws xs rs ms cw cx es q ≡ Ok tt → nodes_of (candidates (relaid (cells_of ws xs rs ms es) q).rows) ≡ asides (page_of ws xs [])
   relayout-nodes pass = nodes_by (cells_of ws xs rs ms es) q (page_of ws xs []) (cells_page ws xs rs ms es) (good_page ws (again_passes ws xs rs ms cw cx es q pass).good xs []).leaves
 
   -- an accepted relayout
-  pub relayout-lists : (k : ℕ) (a : Answer) (rs' : List Float) (ms' cw' : List ℕ) (cx' : List Float) → Replied (relayout_result ws xs rs ms cw cx es q) a rs' ms' cw' cx' → a ≡ Done k → Lists ws xs k cw cx cw' cx'
+  pub relayout-lists : (k : ℕ) (a : Result ℕ Refusal) (rs' : List Float) (ms' cw' : List ℕ) (cx' : List Float) → Replied (relayout_result ws xs rs ms cw cx es q) a rs' ms' cw' cx' → a ≡ Ok k → Lists ws xs k cw cx cw' cx'
   unfolding relayout_result
   relayout-lists k a rs' ms' cw' cx' call e =
-      let g = (relayout-gives ws xs rs ms cw cx es q a rs' ms' cw' cx' call (Done k)).only e in
-      let pass = (relayout-exactly ws xs rs ms cw cx q es Pass).given g.0 in
+      let g = (relayout-gives ws xs rs ms cw cx es q a rs' ms' cw' cx' call (Ok k)).only e in
+      let pass = (relayout-exactly ws xs rs ms cw cx q es (Ok tt)).given g.0 in
       lists-by ws xs (again_passes ws xs rs ms cw cx es q pass).good (relayout_tested ws xs rs ms cw cx es q) (relaid (cells_of ws xs rs ms es) q).rows rs ms cw cx a rs' ms' cw' cx' call k pass g.1 g.2 (relayout-nodes pass)

@@ -1,9 +1,7 @@
 -- Rows that a layout or a relayout leaves: bits 0 and 2 are those of the page's styles, whatever the old rows, so the candidate list names its asides.
-use Rattle.std.specs.Prelude.{◌≡◌, refl, Bool, true, false, cond, ℕ, Float}
+use Rattle.std.specs.Prelude.{◌≡◌, refl, Bool, true, false, cond, ℕ, Float, Option, None, Some}
 use Rattle.std.proofs.Common.{sym, ap, ◌∙◌}
 use Rattle.geometry.specs.Geometry.{zero_f}
-use Rattle.util.specs.declared.OptionF32.{OptionF32}
-use Rattle.util.specs.declared.OptionF32.TheVariants.{None, Some}
 use Rattle.tree.specs.Tree.{Tree, Forest, node, none, more, map_t, map_f, on_root, root_t}
 use Rattle.tree.proofs.Laws.{map_t_node, map_f_none, map_f_more, map_map_f}
 use Rattle.style.specs.Flow.{is_leaf, flow_of}
@@ -88,7 +86,7 @@ unfolding lower_f map_f
 flow_low d none = refl
 flow_low d (more t ts) = rw (flow_on (lowered d) (low_bits d) t, flow_low d ts)
 
-flow_align : (d : OptionF32) (ts : Forest Row) → map_f row_flow (align_f d ts) ≡ map_f row_flow ts
+flow_align : (d : Option Float) (ts : Forest Row) → map_f row_flow (align_f d ts) ≡ map_f row_flow ts
 unfolding align_f
 flow_align None ts = refl
 flow_align (Some d) ts = flow_low d ts

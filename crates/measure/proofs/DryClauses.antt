@@ -1,4 +1,5 @@
 -- The clauses of both passes without rows, as equations.
+use Rattle.std.specs.Prelude.{None}
 use mathlib.Core.Path.{◌≡◌, refl, ap}
 use mathlib.Core.Bool.{Bool, true, false}
 use Prim.Native.Nat.{◌+◌, ◌≤◌}
@@ -6,7 +7,6 @@ use native.Mathlib.Omega.{arith}
 use lib.Ieee.{Float}
 use Rattle.geometry.specs.Geometry.{zero_f}
 use Rattle.util.specs.Math.{larger}
-use Rattle.util.specs.declared.OptionF32.TheVariants.{None}
 use Rattle.length.specs.declared.AvailableSpace.{AvailableSpace}
 use Rattle.tree.specs.Tree.{Tree, Forest, node, none, more, root_t}
 use Rattle.style.specs.Flow.{is_leaf, flow_of}

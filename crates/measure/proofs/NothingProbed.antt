@@ -1,11 +1,10 @@
 -- Where every old row is zero no probe stands answered, and the width pass finds what the sites alone give.
+use Rattle.std.specs.Prelude.{Option, None, Some}
 use mathlib.Core.Path.{◌≡◌, refl, sym, ap, ◌∙◌}
 use mathlib.Core.Bool.{Bool, true, false}
 use lib.Ieee.{Float}
 use Rattle.geometry.specs.Geometry.{zero_f}
 use Rattle.util.specs.Math.{larger}
-use Rattle.util.specs.declared.OptionF32.{OptionF32}
-use Rattle.util.specs.declared.OptionF32.TheVariants.{None, Some}
 use Rattle.length.specs.declared.AvailableSpace.{AvailableSpace}
 use Rattle.tree.specs.Tree.{Tree, Forest, node, none, more, map_t, map_f, root_t}
 use Rattle.tree.proofs.Laws.{map_t_node, map_f_none, map_f_more, root_t_node, root_t_map}
@@ -50,7 +49,7 @@ asked_of : (s : Site) (ks : Forest Site) (q : ProbeInput) (x : Float) (ns : Fore
 unfolding asked probed_anew blank
 asked_of s ks q x ns e h = record { answer = e; nodes = nodes_node _ s ks ns refl refl h }
 
-block_of : (s : Site) (ks : Forest Site) (q : ProbeInput) (o : OptionF32) (r : Widest) → width_t (node s ks) q ≡ width_by s.style o (width_f ks (space_in s.style None q.available) zero_f)
+block_of : (s : Site) (ks : Forest Site) (q : ProbeInput) (o : Option Float) (r : Widest) → width_t (node s ks) q ≡ width_by s.style o (width_f ks (space_in s.style None q.available) zero_f)
     → WidestOf ks (space_in s.style None q.available) zero_f r → ProbeOf (node s ks) q (block_probe (blank s) q (map_f blank ks) o r)
 unfolding block_probe width_by blank
 block_of s ks q (Some w) r e h = asked_of s ks q w (map_f cleared (map_f blank ks)) e (nodes_clears ks)
@@ -106,11 +105,11 @@ pub widest_dry : (ts : Forest Site) (a : AvailableSpace) (m : Float) → width_f
 widest_dry ts a m = (probes_f ts a m).most
 
 -- ---- the width pass of a page
-pub record PassOf (t : Tree Site) (q : LayoutInput) (o : OptionF32) (p : Passed) : Type 0 where
+pub record PassOf (t : Tree Site) (q : LayoutInput) (o : Option Float) (p : Passed) : Type 0 where
   pub found : found_t t q o ≡ p.found
   pub nodes : NodesT t p.nodes
 
-pass_by_lem : (s : Site) (ks : Forest Site) (q : LayoutInput) (o : OptionF32) → PassOf (node s ks) q o (pass_by (blank s) (map_f blank ks) o q.parent (probe_f (map_f blank ks) (space_in s.style q.parent q.available) zero_f))
+pass_by_lem : (s : Site) (ks : Forest Site) (q : LayoutInput) (o : Option Float) → PassOf (node s ks) q o (pass_by (blank s) (map_f blank ks) o q.parent (probe_f (map_f blank ks) (space_in s.style q.parent q.available) zero_f))
 unfolding pass_by found_t found_by blank cleared
 pass_by_lem s ks q (Some w) = record { found = refl; nodes = nodes_node _ s ks _ refl refl (nodes_clears ks) }
 pass_by_lem s ks q None =

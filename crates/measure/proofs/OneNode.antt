@@ -1,4 +1,6 @@
 -- What each function of the two cycles does with one tree, in plain terms.
+use Rattle.std.specs.Prelude.{Option, None, Some, is_some}
+use Rattle.geometry.specs.declared.Size.{Size}
 use mathlib.Core.Path.{◌≡◌, refl, sym, ap, ◌∙◌}
 use mathlib.Core.Bool.{Bool, true, false, cond, true≢false}
 use mathlib.Core.List.{List}
@@ -7,10 +9,6 @@ use lib.ListN.{length, take, drop}
 use lib.Ieee.{Float}
 use Rattle.geometry.specs.Geometry.{zero_f}
 use Rattle.util.specs.Math.{larger}
-use Rattle.util.specs.Maybe.{is_some}
-use Rattle.util.specs.declared.OptionF32.{OptionF32}
-use Rattle.util.specs.declared.OptionF32.TheVariants.{None, Some}
-use Rattle.util.specs.declared.OptionSize.{OptionSize}
 use Rattle.length.specs.declared.AvailableSpace.{AvailableSpace}
 use Rattle.style.specs.Style.{style_at}
 use Rattle.style.specs.declared.Style.{Style}
@@ -45,7 +43,7 @@ use Rattle.measure.proofs.Sites.{root_style, kids_of}
 use Rattle.measure.proofs.DryClauses.{width_t_leaf, width_t_block, size_t_leaf, size_t_block}
 
 -- the value there, or x
-abbrev or_else : Float → OptionF32 → Float
+abbrev or_else : Float → Option Float → Float
 or_else x None = x
 or_else x (Some y) = y
 
@@ -67,19 +65,19 @@ module _ (ws : List ℕ) (xs : List Float) (b : ℕ) (s : Style) (hs : s ≡ sty
   leaf_width_lem : (q : ProbeInput) (r : Float) → is_leaf s.kind ≡ true → r ≡ leaf_width s.measure q.available → Width ws xs b q r
   leaf_width_lem q r e hr (node l ks) h = hr ∙ ap (λ (z : Style). leaf_width z.measure q.available) (style-of l ks h) ∙ sym (width_t_leaf l ks q (kind_of_lem l ks true h e))
 
-  width-by : (q : ProbeInput) (known : OptionSize) (o : OptionF32) (l : Site) (ks : Forest Site) → SitesT ws xs b (node l ks) → is_leaf s.kind ≡ false → known ≡ probe_known s q → known.width ≡ o
+  width-by : (q : ProbeInput) (known : Size (Option Float)) (o : Option Float) (l : Site) (ks : Forest Site) → SitesT ws xs b (node l ks) → is_leaf s.kind ≡ false → known ≡ probe_known s q → known.width ≡ o
       → width_t (node l ks) q ≡ width_by s o (width_f ks (space_in s None q.available) zero_f)
   width-by q known o l ks h e hk ho =
       let st = sym (style-of l ks h) in
-      let ko : (probe_known s q).width ≡ o = ap (λ (z : OptionSize). z.width) (sym hk) ∙ ho in
+      let ko : (probe_known s q).width ≡ o = ap (λ (z : Size (Option Float)). z.width) (sym hk) ∙ ho in
       width_t_block l ks q (kind_of_lem l ks false h e) ∙ ap (λ (z : Style). width_by z (probe_known z q).width (width_f ks (space_in z None q.available) zero_f)) st
-      ∙ ap (λ (z : OptionF32). width_by s z (width_f ks (space_in s None q.available) zero_f)) ko
+      ∙ ap (λ (z : Option Float). width_by s z (width_f ks (space_in s None q.available) zero_f)) ko
 
-  known-width : (q : ProbeInput) (known : OptionSize) (w : Float) → is_leaf s.kind ≡ false → known ≡ probe_known s q → known.width ≡ Some w → Width ws xs b q w
+  known-width : (q : ProbeInput) (known : Size (Option Float)) (w : Float) → is_leaf s.kind ≡ false → known ≡ probe_known s q → known.width ≡ Some w → Width ws xs b q w
   unfolding width_by
   known-width q known w e hk ho (node l ks) h = sym (width-by q known (Some w) l ks h e hk ho)
 
-  inner-width : (q : ProbeInput) (known : OptionSize) (room : AvailableSpace) (most r : Float) → is_leaf s.kind ≡ false → known ≡ probe_known s q → known.width ≡ None → room ≡ space_in s None q.available
+  inner-width : (q : ProbeInput) (known : Size (Option Float)) (room : AvailableSpace) (most r : Float) → is_leaf s.kind ≡ false → known ≡ probe_known s q → known.width ≡ None → room ≡ space_in s None q.available
       → Widest (take (length ws - 4) (drop 4 ws)) xs (b + 1) room most → r ≡ found_width s None most → Width ws xs b q r
   unfolding width_by
   inner-width q known room most r e hk ho hroom hm hr (node l ks) h =
@@ -100,7 +98,6 @@ module _ (ws : List ℕ) (xs : List Float) (b : ℕ) (s : Style) (hs : s ≡ sty
 
   pub width-inside : (q : ProbeInput) (room : AvailableSpace) (most r : Float) → width_at_once s q ≡ None → room ≡ space_in s None q.available → Widest (take (length ws - 4) (drop 4 ws)) xs (b + 1) room most → r ≡ found_width s None most
       → Width ws xs b q r
-  unfolding is_some
   width-inside q room most r e hroom hm hr = go (is_leaf s.kind) refl
     where
       go : (v : Bool) → is_leaf s.kind ≡ v → Width ws xs b q r
@@ -168,7 +165,7 @@ module _ (ws : List ℕ) (xs : List Float) (b : ℕ) (s : Style) (hs : s ≡ sty
         item-passed q o i r e hq ho refl (hr i.sizing ∙ ap (λ (j : BlockItem). stepped f c j o) (with_footing i g hg))
 
   -- ---- the width pass at the root
-  root-found : (l : Site) (ks : Forest Site) (q : LayoutInput) (o : OptionF32) → found_t (node l ks) q o ≡ found_by l.style q.parent o (width_f ks (space_in l.style q.parent q.available) zero_f)
+  root-found : (l : Site) (ks : Forest Site) (q : LayoutInput) (o : Option Float) → found_t (node l ks) q o ≡ found_by l.style q.parent o (width_f ks (space_in l.style q.parent q.available) zero_f)
   unfolding found_t
   root-found l ks q o = refl
 

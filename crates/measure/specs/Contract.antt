@@ -1,8 +1,7 @@
 -- What the functions of the two cycles promise: an answer for every tree that has these words.
-use Rattle.std.specs.Prelude.{◌≡◌, List, [], ℕ, ◌+◌, ◌*◌, ◌≤◌, length, Float}
+use Rattle.std.specs.Prelude.{◌≡◌, List, [], ℕ, ◌+◌, ◌*◌, ◌≤◌, length, Float, Option}
 use Rattle.geometry.specs.Geometry.{zero_f}
 use Rattle.geometry.specs.declared.Size.{Size}
-use Rattle.util.specs.declared.OptionF32.{OptionF32}
 use Rattle.length.specs.declared.AvailableSpace.{AvailableSpace}
 use Rattle.style.specs.Style.{plane_of, style_at}
 use Rattle.tree.specs.Tree.{Tree, Forest, node, count_t, count_f, depth_t, depth_f, flat_t, flat_f}
@@ -66,17 +65,17 @@ abbrev pub Ended : List ℕ → List Float → ℕ → LayoutInput → StackOutp
 Ended ws xs b q stack r = (f : Frame) (c : Cursor) → stack ≡ stack_leaves f c → r ≡ (finished (style_at ws 0 xs b) q f c).output
 
 -- the page's own steps
-abbrev pub Found : List ℕ → List Float → LayoutInput → OptionF32 → Float → Type 0
+abbrev pub Found : List ℕ → List Float → LayoutInput → Option Float → Float → Type 0
 Found ws xs q width r = (t : Tree Site) → SitesT ws xs 0 t → r ≡ found_t t q width
 
-abbrev pub Whole : List ℕ → List Float → LayoutInput → RequestedAxis → Float → Float → Float → OptionF32 → Size → Type 0
+abbrev pub Whole : List ℕ → List Float → LayoutInput → RequestedAxis → Float → Float → Float → Option Float → Size Float → Type 0
 Whole ws xs q a found width pb height r = (t : Tree Site) → SitesT ws xs 0 t → r ≡ step_g a width pb height (size_t t q found).size
 
-abbrev pub Rest : List ℕ → List Float → LayoutInput → RequestedAxis → Size → Type 0
+abbrev pub Rest : List ℕ → List Float → LayoutInput → RequestedAxis → Size Float → Type 0
 Rest ws xs q a r = (t : Tree Site) → SitesT ws xs 0 t → r ≡ rest_t t q a
 
-abbrev pub KnownWidth : List ℕ → List Float → LayoutInput → RequestedAxis → Float → OptionF32 → Size → Type 0
+abbrev pub KnownWidth : List ℕ → List Float → LayoutInput → RequestedAxis → Float → Option Float → Size Float → Type 0
 KnownWidth ws xs q a width height r = (t : Tree Site) → SitesT ws xs 0 t → r ≡ width_known a width height (rest_t t q a)
 
-abbrev pub SizeOf : List ℕ → List Float → LayoutInput → RequestedAxis → Size → Type 0
+abbrev pub SizeOf : List ℕ → List Float → LayoutInput → RequestedAxis → Size Float → Type 0
 SizeOf ws xs q a r = (t : Tree Site) → SitesT ws xs 0 t → r ≡ size_of t q a

@@ -1,10 +1,8 @@
 -- Both passes without rows: what a tree of sites answers, and nothing more.
-use Rattle.std.specs.Prelude.{true, false, Float}
+use Rattle.std.specs.Prelude.{true, false, Float, Option, None, Some}
 use Rattle.geometry.specs.Geometry.{zero_f}
 use Rattle.geometry.specs.declared.Size.{Size}
 use Rattle.util.specs.Math.{larger}
-use Rattle.util.specs.declared.OptionF32.{OptionF32}
-use Rattle.util.specs.declared.OptionF32.TheVariants.{None, Some}
 use Rattle.length.specs.declared.AvailableSpace.{AvailableSpace}
 use Rattle.style.specs.declared.Style.{Style}
 use Rattle.tree.specs.Tree.{Tree, Forest, node, none, more, root_t}
@@ -30,7 +28,7 @@ use Rattle.steps.specs.declared.Frame.{Frame}
 use Rattle.steps.specs.declared.Cursor.{Cursor}
 
 -- a width that is known, else the one that F finds
-unfoldable pub width_by : Style → OptionF32 → Float → Float
+unfoldable pub width_by : Style → Option Float → Float → Float
 width_by s (Some w) most = w
 width_by s None most = found_width s None most
 
@@ -89,22 +87,22 @@ unfoldable pub past_t : Frame → Cursor → Tree Site → Cursor
 past_t f c t = past_by (flow_of (root_t t).style) f c t
 
 -- what the width pass finds at the root; 0 where the width is known
-unfoldable pub found_by : Style → OptionF32 → OptionF32 → Float → Float
+unfoldable pub found_by : Style → Option Float → Option Float → Float → Float
 found_by s parent (Some w) most = zero_f
 found_by s parent None most = found_width s parent most
 
-unfoldable pub found_t : Tree Site → LayoutInput → OptionF32 → Float
+unfoldable pub found_t : Tree Site → LayoutInput → Option Float → Float
 found_t (node l ks) q width = found_by l.style q.parent width (width_f ks (space_in l.style q.parent q.available) zero_f)
 
 -- D, F, G and the whole layout
-unfoldable pub rest_t : Tree Site → LayoutInput → RequestedAxis → Size
+unfoldable pub rest_t : Tree Site → LayoutInput → RequestedAxis → Size Float
 rest_t t q a =
     let z = step_a (root_t t).style q.parent in
     let known = known_of (root_t t).style z q.known in
     size_below a z known (found_t t q known.width) (size_t t q (found_t t q known.width)).size
 
 -- C first
-unfoldable pub dry_size : Tree Site → LayoutInput → RequestedAxis → Size
+unfoldable pub dry_size : Tree Site → LayoutInput → RequestedAxis → Size Float
 dry_size t q a =
     let b = step_b (step_a (root_t t).style q.parent) q.known in
     step_c a b.width b.height (rest_t t q a)

@@ -12,13 +12,13 @@ ghost use Rattle.measure.specs.Contract.{IsTree, IsForest, Width, Widened, Wides
 use geometry::Size;
 use heights::StackOutput;
 use length::AvailableSpace;
+use reader::Reader;
 use steps::{
-    Answer, Frame, LayoutInput, LayoutOutput, ProbeInput, Question, RequestedAxis, SizeAnswer,
-    Tested, Want, root_input,
+    Frame, LayoutInput, LayoutOutput, ProbeInput, Question, Refusal, RequestedAxis, Want,
+    root_input,
 };
 use style::Flow;
 use tree::NodeId;
-use util::OptionF32;
 
 // The levels that are left below the root.
 const BELOW_ROOT: usize = tree::MAX_DEPTH - 1;
@@ -31,13 +31,13 @@ fn width_of(words: &[u32], numbers: &[f32], base: usize, depth: usize, q: ProbeI
 {
     let width = widths::width_at_once(words, numbers, base, q);
     match width {
-        OptionF32::Some(w) => w,
-        OptionF32::None => {
-            let r = reader::reader_at(words, numbers, base);
+        Some(w) => w,
+        None => {
+            let r = Reader::at(words, numbers, base);
             let a = q.available;
-            let room = widths::available_inside(r, numbers, OptionF32::None, a);
+            let room = widths::available_inside(r, None, a);
             let most = widest(&words[style::WORDS..], numbers, base + 1, depth - 1, room);
-            widths::width_from(r, numbers, OptionF32::None, most)
+            widths::width_from(r, None, most)
         }
     }
 }
@@ -55,14 +55,14 @@ fn widened(
     requires { IsTree words.now numbers.now base depth }
     ensures { Widened words.now numbers.now base a most result }
 {
-    let r = reader::reader_at(words, numbers, base);
-    let want = widths::want_of(r, numbers, a);
+    let r = Reader::at(words, numbers, base);
+    let want = widths::want_of(r, a);
     match want {
         Want::Nothing => most,
         Want::Outer(w) => util::f32_max(most, w),
         Want::Probe(q) => {
             let w = width_of(words, numbers, base, depth, q);
-            let o = widths::outer_width(r, numbers, a, w);
+            let o = widths::outer_width(r, a, w);
             util::f32_max(most, o)
         }
     }
@@ -76,6 +76,7 @@ fn widest(words: &[u32], numbers: &[f32], base: usize, depth: usize, a: Availabl
 {
     let mut most = 0.0;
     let mut i = 0usize;
+    // No `for`: a step is as long as its run.
     while style::WORDS * i < words.len() {
         let e = i + style::word(words, i, style::SIZE) as usize;
         let i4 = style::WORDS * i;
@@ -136,6 +137,7 @@ fn measure_in_flow_children(
 {
     let mut cursor = stacking::start_of(frame);
     let mut child = 1usize;
+    // No `for`: a step is as long as its run.
     while style::WORDS * child < words.len() {
         let end = child + style::word_in(words, child, style::SIZE) as usize;
         let w0 = style::WORDS * child;
@@ -161,7 +163,7 @@ fn measure_in_flow_children(
     heights::stack_output(frame, cursor)
 }
 
-fn axes(width: f32, height: f32) -> Size
+fn axes(width: f32, height: f32) -> Size<f32>
     ensures { result ≡ axes width height }
 {
     Size {
@@ -171,19 +173,19 @@ fn axes(width: f32, height: f32) -> Size
 }
 
 // What the width pass finds for the root; it is not run where the width is known.
-fn found_width(words: &[u32], numbers: &[f32], q: LayoutInput, width: OptionF32) -> f32
+fn found_width(words: &[u32], numbers: &[f32], q: LayoutInput, width: Option<f32>) -> f32
     requires { IsTree words.now numbers.now 0 32 }
     ensures { Found words.now numbers.now q width result }
 {
     match width {
-        OptionF32::Some(w) => 0.0,
-        OptionF32::None => {
-            let r = reader::reader_at(words, numbers, 0);
+        Some(w) => 0.0,
+        None => {
+            let r = Reader::at(words, numbers, 0);
             let parent = q.parent;
             let a = q.available;
-            let room = widths::available_inside(r, numbers, parent, a);
+            let room = widths::available_inside(r, parent, a);
             let most = widest(&words[style::WORDS..], numbers, 1, BELOW_ROOT, room);
-            widths::width_from(r, numbers, parent, most)
+            widths::width_from(r, parent, most)
         }
     }
 }
@@ -197,12 +199,12 @@ fn size_after_width(
     found: f32,
     width: f32,
     pb: f32,
-    height: OptionF32,
-) -> Size
+    height: Option<f32>,
+) -> Size<f32>
     requires { IsTree words.now numbers.now 0 32 }
     ensures { Whole words.now numbers.now q axis found width pb height result }
 {
-    if let OptionF32::Some(h) = height {
+    if let Some(h) = height {
         return axes(width, util::f32_max(h, pb));
     }
     match axis {
@@ -215,15 +217,15 @@ fn size_after_width(
 }
 
 // Steps D, F and G.
-fn size_below(words: &[u32], numbers: &[f32], q: LayoutInput, axis: RequestedAxis) -> Size
+fn size_below(words: &[u32], numbers: &[f32], q: LayoutInput, axis: RequestedAxis) -> Size<f32>
     requires { IsTree words.now numbers.now 0 32 }
     ensures { Rest words.now numbers.now q axis result }
 {
-    let r = reader::reader_at(words, numbers, 0);
+    let r = Reader::at(words, numbers, 0);
     let parent = q.parent;
     let asked = q.known;
-    let z = sizing::sizing_without_height_basis(r, numbers, parent);
-    let known = sizing::known_dimensions(reader::ratio(r, numbers), z, asked);
+    let z = sizing::sizing_without_height_basis(r, parent);
+    let known = sizing::known_dimensions(r.ratio(), z, asked);
     let both = z.both;
     let width = known.width;
     let height = known.height;
@@ -240,12 +242,12 @@ fn size_with_width(
     q: LayoutInput,
     axis: RequestedAxis,
     width: f32,
-    height: OptionF32,
-) -> Size
+    height: Option<f32>,
+) -> Size<f32>
     requires { IsTree words.now numbers.now 0 32 }
     ensures { KnownWidth words.now numbers.now q axis width height result }
 {
-    if let OptionF32::Some(h) = height {
+    if let Some(h) = height {
         return axes(width, h);
     }
     match axis {
@@ -255,49 +257,56 @@ fn size_with_width(
 }
 
 // Step C: what is known before the aspect ratio.
-fn size_of(words: &[u32], numbers: &[f32], q: LayoutInput, axis: RequestedAxis) -> Size
+fn size_of(words: &[u32], numbers: &[f32], q: LayoutInput, axis: RequestedAxis) -> Size<f32>
     requires { IsTree words.now numbers.now 0 32 }
     ensures { SizeOf words.now numbers.now q axis result }
 {
-    let r = reader::reader_at(words, numbers, 0);
+    let r = Reader::at(words, numbers, 0);
     let parent = q.parent;
     let asked = q.known;
-    let z = sizing::sizing_without_height_basis(r, numbers, parent);
+    let z = sizing::sizing_without_height_basis(r, parent);
     let known = sizing::styled_based_known_dimensions(z, asked);
     let width = known.width;
     let height = known.height;
     match width {
-        OptionF32::None => size_below(words, numbers, q, axis),
-        OptionF32::Some(w) => size_with_width(words, numbers, q, axis, w, height),
+        None => size_below(words, numbers, q, axis),
+        Some(w) => size_with_width(words, numbers, q, axis, w, height),
     }
 }
 
 // 8: the answer alone is tested.
-fn size_reply(s: Size) -> SizeAnswer
+fn size_reply(s: Size<f32>) -> Result<Size<f32>, Refusal>
     ensures { result ≡ size_reply s }
 {
     if limits::too_large(s.width) {
-        return SizeAnswer::Refused(Answer::TooLarge(NodeId(0)));
+        return Err(Refusal::TooLarge(NodeId(0)));
     }
     if limits::too_large(s.height) {
-        return SizeAnswer::Refused(Answer::TooLarge(NodeId(0)));
+        return Err(Refusal::TooLarge(NodeId(0)));
     }
-    SizeAnswer::Sized(s)
+    Ok(s)
 }
 
 // The size of a page, or why it is refused, for any question that a node may be asked.
-fn size_or_no(words: &[u32], numbers: &[f32], q: LayoutInput, axis: RequestedAxis) -> SizeAnswer
+fn size_or_no(
+    words: &[u32],
+    numbers: &[f32],
+    q: LayoutInput,
+    axis: RequestedAxis,
+) -> Result<Size<f32>, Refusal>
     ensures { result ≡ size_result words.now numbers.now q axis }
 {
-    if let Tested::Refuse(a) = tables::size_tested(words, numbers, q) {
-        return SizeAnswer::Refused(a);
-    }
-    let s = size_of(words, numbers, q, axis);
-    size_reply(s)
+    tables::size_tested(words, numbers, q)?;
+    size_reply(size_of(words, numbers, q, axis))
 }
 
 // The size of a page, or why it is refused. Nothing is asked of what is lent.
-pub fn size_question(words: &[u32], numbers: &[f32], q: Question, axis: RequestedAxis) -> SizeAnswer
+pub fn size_question(
+    words: &[u32],
+    numbers: &[f32],
+    q: Question,
+    axis: RequestedAxis,
+) -> Result<Size<f32>, Refusal>
     ensures { SizeReplied (size_result words.now numbers.now (root_input q) axis) result }
 {
     size_or_no(words, numbers, root_input(q), axis)

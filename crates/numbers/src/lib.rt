@@ -11,10 +11,9 @@ ghost use Rattle.steps.specs.Noes.{signed, most_of, bad_field, bad_pixels, bad_r
 ghost use Rattle.numbers.specs.Fields.{bad_field_at};
 
 use limits::in_range;
-use steps::{Answer, Found, LayoutInput, Tested};
+use steps::{LayoutInput, Refusal};
 use style::{number_in, unit, word_in};
 use tree::NodeId;
-use util::OptionF32;
 
 // 4: not from 0 to 65,536.
 fn bad_pixels(x: f32) -> bool
@@ -87,12 +86,10 @@ fn some_bad_field(
     requires { ((n ≡ plane_of numbers.now) × (i < n)) × ((from ≤ to) × (to ≤ 22)) }
     ensures { result ≡ scan (bad_field_at u v numbers.now i) (λ _. true) false from (to - from) }
 {
-    let mut f = from;
-    while f < to {
+    for f in from..to {
         if bad_field(f, unit(u, v, f as u32), number_in(numbers, n, i, f)) {
             return true;
         }
-        f += 1;
     }
     false
 }
@@ -143,28 +140,26 @@ fn bad_numbers(words: &[u32], numbers: &[f32], n: usize, i: usize) -> bool
 }
 
 // 4: the lowest node at fault. It counts nodes by the planes: then no read asks whether its node is in them.
-fn first_bad_numbers(words: &[u32], numbers: &[f32]) -> Found
+fn first_bad_numbers(words: &[u32], numbers: &[f32]) -> Option<NodeId>
     requires { (nodes_in words.now ≤ 1024) × (nodes_in words.now ≡ plane_of numbers.now) }
     ensures { result ≡ lowest (bad_numbers words.now numbers.now) (nodes_in words.now) }
 {
     let n = numbers.len() / style::NUMBERS;
-    let mut i = 0;
-    while i < n {
+    for i in 0..n {
         if bad_numbers(words, numbers, n, i) {
-            return Found::At(NodeId(i as u32));
+            return Some(NodeId(i as u32));
         }
-        i += 1;
     }
-    Found::Nowhere
+    None
 }
 
 // 4: a number of the question, where there is one.
-fn bad_option(o: OptionF32) -> bool
+fn bad_option(o: Option<f32>) -> bool
     ensures { result ≡ bad_option o }
 {
     match o {
-        OptionF32::None => false,
-        OptionF32::Some(x) => bad_pixels(x),
+        None => false,
+        Some(x) => bad_pixels(x),
     }
 }
 
@@ -198,15 +193,15 @@ fn question_place(words: &[u32]) -> u32
 }
 
 // 4: the nodes first, then the question.
-pub fn numbers_tested(words: &[u32], numbers: &[f32], q: LayoutInput) -> Tested
+pub fn numbers_tested(words: &[u32], numbers: &[f32], q: LayoutInput) -> Result<(), Refusal>
     requires { (nodes_in words.now ≤ 1024) × (nodes_in words.now ≡ plane_of numbers.now) }
     ensures { result ≡ no4 words.now numbers.now q }
 {
-    if let Found::At(i) = first_bad_numbers(words, numbers) {
-        return Tested::Refuse(Answer::Numbers(i.0));
+    if let Some(i) = first_bad_numbers(words, numbers) {
+        return Err(Refusal::Numbers(i.0));
     }
     if bad_question(q) {
-        return Tested::Refuse(Answer::Numbers(question_place(words)));
+        return Err(Refusal::Numbers(question_place(words)));
     }
-    Tested::Pass
+    Ok(())
 }

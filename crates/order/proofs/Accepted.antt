@@ -1,5 +1,6 @@
 -- Rows keep their order: of a page that a layout accepts and whose every node is steady, by the numbers of its nodes.
-use Rattle.std.specs.Prelude.{◌≡◌, true, ◌||◌, List, [], ℕ, ◌<◌, Float}
+use Rattle.steps.specs.declared.Refusal.TheVariants.{Lengths}
+use Rattle.std.specs.Prelude.{◌≡◌, true, ◌||◌, List, [], ℕ, ◌<◌, Float, None, Ok}
 use Rattle.std.proofs.Common.{arith}
 use Rattle.limits.specs.Bools.{or_left}
 use Rattle.steps.specs.Scan.{lowest}
@@ -9,9 +10,6 @@ use Rattle.steps.specs.Layout.{fresh}
 use Rattle.steps.specs.Noes.{end_at, bad_tables, bad_rows, bad_numbers, bad_row, refuse_if, no5, page_tested, layout_tested}
 use Rattle.steps.specs.Results.{rows_out, marks_out, layout_result}
 use Rattle.steps.specs.declared.LayoutInput.{LayoutInput}
-use Rattle.steps.specs.declared.Answer.TheVariants.{Done, Lengths}
-use Rattle.steps.specs.declared.Tested.TheVariants.{Pass}
-use Rattle.steps.specs.declared.Found.TheVariants.{Nowhere}
 use Rattle.tables.specs.TreeCheck.{GoodTable}
 use Rattle.tables.proofs.ScanLaws.{lowest-nowhere}
 use Rattle.tables.proofs.Passing.{sized, page_passes, then_pass_1, then_pass_2, if_pass}
@@ -27,7 +25,7 @@ use Rattle.order.proofs.Fresh.{fresh_in_order}
 use Rattle.order.specs.Nodes.{kids-T, siblings, child_root, child_within}
 use Rattle.order.specs.Accepted.{site_steady, rows_read, rows_count, at_most, done_nowhere}
 
-page_steady : (ws : List ℕ) (xs : List Float) → 0 < nodes_in ws → lowest (bad_numbers ws xs) (nodes_in ws) ≡ Nowhere → keeps_order ws xs ≡ true → AllT SteadySite (page_of ws xs [])
+page_steady : (ws : List ℕ) (xs : List Float) → 0 < nodes_in ws → lowest (bad_numbers ws xs) (nodes_in ws) ≡ None → keeps_order ws xs ≡ true → AllT SteadySite (page_of ws xs [])
 unfolding page_of
 page_steady ws xs n g k =
     all_parse SteadySite (site_at ws xs [] 0) (nodes_in ws) n (λ i l. site_steady ws xs i (steady-at ws xs i (lowest-nowhere (bad_numbers ws xs) (nodes_in ws) g i l) (node-steady ws xs k i l)))
@@ -38,9 +36,9 @@ module _ (ws : List ℕ) (xs rs : List Float) (ms cw : List ℕ) (cx : List Floa
   -- what the tests tell
   pub record Told : Type 0 where
     pub good : GoodTable ws
-    pub numbers : lowest (bad_numbers ws xs) (nodes_in ws) ≡ Nowhere
+    pub numbers : lowest (bad_numbers ws xs) (nodes_in ws) ≡ None
 
-  told : layout_tested ws xs rs ms cw cx q ≡ Pass → Told
+  told : layout_tested ws xs rs ms cw cx q ≡ Ok tt → Told
   unfolding layout_tested
   told e =
       let b = or_left (bad_tables ws xs) _ (if_pass (bad_tables ws xs || bad_rows ws rs ms) Lengths (then_pass_1 (refuse_if (bad_tables ws xs || bad_rows ws rs ms) Lengths) _ e)) in
@@ -49,7 +47,7 @@ module _ (ws : List ℕ) (xs rs : List Float) (ms cw : List ℕ) (cx : List Floa
       record { good = record { some = z.some; few = z.few; sound = p.tree }; numbers = p.numbers }
 
   -- of the rows that a layout accepts
-  fresh-rows : Told → keeps_order ws xs ≡ true → lowest (bad_row (rows_out (fresh (page_of ws xs []) q).rows)) (nodes_in ws) ≡ Nowhere → RowsInOrder ws (rows_out (fresh (page_of ws xs []) q).rows) (marks_out (fresh (page_of ws xs []) q).rows)
+  fresh-rows : Told → keeps_order ws xs ≡ true → lowest (bad_row (rows_out (fresh (page_of ws xs []) q).rows)) (nodes_in ws) ≡ None → RowsInOrder ws (rows_out (fresh (page_of ws xs []) q).rows) (marks_out (fresh (page_of ws xs []) q).rows)
   fresh-rows w k small p i j l a b g x y =
       let r = (fresh (page_of ws xs []) q).rows in
       let n = rows_count ws xs q w.good in
@@ -63,7 +61,7 @@ module _ (ws : List ℕ) (xs rs : List Float) (ms cw : List ℕ) (cx : List Floa
       (siblings (row_at (rows_out r) (marks_out r)) (end_at ws) c.kids _ i j c.sits c.ordered (child_root ws _ p i c.kids c.sits c.ends a) (child_root ws _ p j c.kids c.sits c.ends b) g x y)
 
   -- a layout that is accepted leaves rows in order, where every node is steady
-  pub layout-keeps-order : (k : ℕ) → (layout_result ws xs rs ms cw cx q).answer ≡ Done k → keeps_order ws xs ≡ true → RowsInOrder ws (layout_result ws xs rs ms cw cx q).rows (layout_result ws xs rs ms cw cx q).marks
+  pub layout-keeps-order : (k : ℕ) → (layout_result ws xs rs ms cw cx q).answer ≡ Ok k → keeps_order ws xs ≡ true → RowsInOrder ws (layout_result ws xs rs ms cw cx q).rows (layout_result ws xs rs ms cw cx q).marks
   unfolding layout_result
   layout-keeps-order k e s =
       let z = layout_accepted ws xs rs ms cw cx q k e in

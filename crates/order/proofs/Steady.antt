@@ -1,5 +1,5 @@
 -- What a steady node brings to the steps, where refusal 4 is not given. Assumes nothing.
-use Rattle.std.specs.Prelude.{◌≡◌, Bool, true, cond, List, ℕ, ◌<◌, Float}
+use Rattle.std.specs.Prelude.{◌≡◌, Bool, true, cond, List, ℕ, ◌<◌, Float, Option}
 use Rattle.std.proofs.Math.Path.{refl}
 use Rattle.std.proofs.Common.{sym, ap, ◌∙◌, arith}
 use Rattle.std.proofs.Math.Bool.{false}
@@ -8,7 +8,6 @@ use borrow.Author.Tests.{not-false}
 use Rattle.geometry.specs.Geometry.{zero_f, plus}
 use Rattle.limits.specs.Limits.{in_range}
 use Rattle.limits.specs.Bools.{and_fst, and_snd, or_left, or_right}
-use Rattle.util.specs.declared.OptionF32.{OptionF32}
 use Rattle.length.specs.Length.{resolved_or_zero, resolved_rect}
 use Rattle.style.specs.Codes.{unit_of}
 use Rattle.style.specs.Style.{word_at, number_at, length_at, rect_at, measure_at, style_at}
@@ -44,7 +43,7 @@ module _ (ws : List ℕ) (xs : List Float) (i : ℕ) (good : bad_numbers ws xs i
       let h5 = or_right (bad_pixels (number_at xs i 25)) _ h4 in
       range_solid (number_at xs i 26) most_pixels (not-false _ (or_left (bad_pixels (number_at xs i 26)) _ h5))
 
-  field-solid : (f : ℕ) (b : OptionF32) → f < 22 → signed f ≡ false → whole (length_at ws i xs i f) ≡ true → Solid (resolved_or_zero (length_at ws i xs i f) b)
+  field-solid : (f : ℕ) (b : Option Float) → f < 22 → signed f ≡ false → whole (length_at ws i xs i f) ≡ true → Solid (resolved_or_zero (length_at ws i xs i f) b)
   unfolding length_at
   field-solid f b l e h = whole_number (unit_at f) (number_at xs i f) b h (unsigned-solid f l e)
 

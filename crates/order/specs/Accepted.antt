@@ -1,5 +1,7 @@
 -- Rows keep their order: of a page that a layout accepts and whose every node is steady, by the numbers of its nodes.
-use Rattle.std.specs.Prelude.{◌≡◌, refl, true, false, List, [], ℕ, ◌+◌, ◌*◌, ◌<◌, get_or, Float}
+use Rattle.steps.specs.declared.Refusal.{Refusal}
+use Rattle.tree.specs.declared.NodeId.{NodeId}
+use Rattle.std.specs.Prelude.{◌≡◌, refl, true, false, List, [], ℕ, ◌+◌, ◌*◌, ◌<◌, get_or, Float, Option, None, Some, Result, Ok, ⊤}
 use Rattle.std.proofs.Common.{sym, ap, subst, ◌∙◌, zero-add, arith}
 use Rattle.std.specs.Float.Ieee.{lt, le}
 use Rattle.geometry.specs.Geometry.{zero_f}
@@ -16,11 +18,6 @@ use Rattle.steps.specs.Layout.{fresh}
 use Rattle.steps.specs.Noes.{end_at, bad_row}
 use Rattle.steps.specs.Results.{rows_out, marks_out, over_limit, replied, tested}
 use Rattle.steps.specs.declared.LayoutInput.{LayoutInput}
-use Rattle.steps.specs.declared.Answer.TheVariants.{Done}
-use Rattle.steps.specs.declared.Tested.{Tested}
-use Rattle.steps.specs.declared.Tested.TheVariants.{Pass}
-use Rattle.steps.specs.declared.Found.{Found}
-use Rattle.steps.specs.declared.Found.TheVariants.{Nowhere, At}
 use Rattle.tables.specs.TreeCheck.{GoodTable}
 use Rattle.tables.proofs.ScanLaws.{not_some}
 use Rattle.tables.proofs.GoodPage.{good_page, good-cells}
@@ -66,13 +63,13 @@ at_most rs ms i j a b h =
     lt_le (bottom_edge (row_at rs ms i)) (top_edge (row_at rs ms j)) (finite_add _ _ (small_finite _ (small_at rs i 1 a (omega arith))) (small_finite _ (small_at rs i 3 a (omega arith))))
     (finite_number _ (small_finite _ (small_at rs j 1 b (omega arith)))) h
 
-limit_nowhere : (w : Found) (t : Tree Row) (rs : List Float) (ms cw : List ℕ) (cx : List Float) (k : ℕ) → (over_limit w t rs ms cw cx).answer ≡ Done k → w ≡ Nowhere
+limit_nowhere : (w : Option NodeId) (t : Tree Row) (rs : List Float) (ms cw : List ℕ) (cx : List Float) (k : ℕ) → (over_limit w t rs ms cw cx).answer ≡ Ok k → w ≡ None
 unfolding over_limit
-limit_nowhere Nowhere t rs ms cw cx k e = refl
-limit_nowhere (At i) t rs ms cw cx k e = cc
+limit_nowhere None t rs ms cw cx k e = refl
+limit_nowhere (Some i) t rs ms cw cx k e = cc
 
-pub done_nowhere : (u : Tested) (n : ℕ) (t : Tree Row) (rs : List Float) (ms cw : List ℕ) (cx : List Float) (k : ℕ) → u ≡ Pass → (tested u (replied n t rs ms cw cx) rs ms cw cx).answer ≡ Done k → lowest (bad_row (rows_out t)) n ≡ Nowhere
+pub done_nowhere : (u : Result ⊤ Refusal) (n : ℕ) (t : Tree Row) (rs : List Float) (ms cw : List ℕ) (cx : List Float) (k : ℕ) → u ≡ Ok tt → (tested u (replied n t rs ms cw cx) rs ms cw cx).answer ≡ Ok k → lowest (bad_row (rows_out t)) n ≡ None
 unfolding tested replied
 done_nowhere u n t rs ms cw cx k p e =
-    let h : (over_limit (lowest (bad_row (rows_out t)) n) t rs ms cw cx).answer ≡ Done k = rw p at e in
+    let h : (over_limit (lowest (bad_row (rows_out t)) n) t rs ms cw cx).answer ≡ Ok k = rw p at e in
     limit_nowhere (lowest (bad_row (rows_out t)) n) t rs ms cw cx k h

@@ -1,13 +1,11 @@
 -- What a steady child is answered: a height not below 0, and 0 where it is through. Assumes nothing.
-use Rattle.std.specs.Prelude.{◌≡◌, refl, Bool, true, false, ◌&&◌, ◌*◌, Float}
+use Rattle.std.specs.Prelude.{◌≡◌, refl, Bool, true, false, ◌&&◌, ◌*◌, Float, Option, None, Some, unwrap_or}
 use Rattle.std.proofs.Common.{sym, ap, subst, ◌∙◌, true≢false, mul-one, zero-mul, eqb-true}
 use Rattle.std.specs.Float.{nan, inf, fin}
 use Rattle.std.specs.Float.Ieee.{lt, eq, up, down, of_bits}
 use Rattle.geometry.specs.Geometry.{zero_f}
 use Rattle.limits.specs.Bools.{and_fst, and_snd}
-use Rattle.util.specs.Maybe.{unwrap_or, floor_opt}
-use Rattle.util.specs.declared.OptionF32.{OptionF32}
-use Rattle.util.specs.declared.OptionF32.TheVariants.{None, Some}
+use Rattle.util.specs.Maybe.{floor_opt}
 use Rattle.style.specs.declared.Style.{Style}
 use Rattle.style.specs.Flow.{is_leaf}
 use Rattle.tree.specs.Tree.{Tree, node, root_t}
@@ -33,8 +31,8 @@ answer t f = (lay_t t (question_to f (style_t t)) zero_f).out
 
 -- ---- a height
 
-asked_up : (o : OptionF32) (p h : Float) → Solid p → lt h zero_f ≡ false → lt (unwrap_or (floor_opt o p) h) zero_f ≡ false
-unfolding unwrap_or floor_opt
+asked_up : (o : Option Float) (p h : Float) → Solid p → lt h zero_f ≡ false → lt (unwrap_or (floor_opt o p) h) zero_f ≡ false
+unfolding floor_opt
 asked_up None p h s e = e
 asked_up (Some x) p h s e = larger_up x p s
 

@@ -1,10 +1,10 @@
 -- The pages whose rows keep their order: what is asked of the style of every node.
+use Rattle.geometry.specs.declared.Rect.{Rect}
 use Rattle.std.specs.Prelude.{Bool, true, false, not, ◌&&◌, List, ℕ, Float}
 use Rattle.std.specs.Float.Ieee.{lt}
 use Rattle.geometry.specs.Geometry.{zero_f}
 use Rattle.length.specs.declared.Length.{Length}
 use Rattle.length.specs.declared.Length.TheVariants.{Auto, Pixels, Fraction}
-use Rattle.length.specs.declared.LengthRect.{LengthRect}
 use Rattle.style.specs.Style.{style_at}
 use Rattle.style.specs.declared.Position.{Position}
 use Rattle.style.specs.declared.Position.TheVariants.{Static, Relative, Absolute}
@@ -44,10 +44,10 @@ unshifted SpaceEvenly = false
 unshifted Stretch = true
 
 -- of the top and of the bottom
-unfoldable pub fair_down : LengthRect → Bool
+unfoldable pub fair_down : Rect Length → Bool
 fair_down r = fair r.top && fair r.bottom
 
-unfoldable pub whole_down : LengthRect → Bool
+unfoldable pub whole_down : Rect Length → Bool
 whole_down r = whole r.top && whole r.bottom
 
 -- all of it, of one node

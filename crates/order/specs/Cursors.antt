@@ -1,5 +1,5 @@
 -- One step of the stack, past a child whose sets hold nothing below 0. Assumes nothing.
-use Rattle.std.specs.Prelude.{◌≡◌, Bool, true, false, cond, T, Float}
+use Rattle.std.specs.Prelude.{◌≡◌, Bool, true, false, cond, T, Float, Option}
 use Rattle.std.proofs.Common.{ap, ◌∙◌}
 use Rattle.std.specs.Float.Ieee.{lt, add, fits}
 use Rattle.std.specs.Float.{binary32}
@@ -11,7 +11,6 @@ use Rattle.margin.specs.Margin.{joined, sum_of}
 use Rattle.margin.specs.declared.CollapsibleMarginSet.{CollapsibleMarginSet}
 use Rattle.steps.specs.Sizing.{insets}
 use Rattle.steps.specs.Edges.{frame_of, step_i}
-use Rattle.util.specs.declared.OptionF32.{OptionF32}
 use Rattle.steps.specs.Baseline.{baseline_past}
 use Rattle.steps.specs.Stack.{start_of, item_of, place_y, stepped, past_through, past_box, past_aside, past_hidden, top_margins, bottom_margins, gap_of, at_top}
 use Rattle.steps.specs.declared.LayoutInput.{LayoutInput}
@@ -71,7 +70,7 @@ gap_up f c t g u = go (at_top f c)
     go true = lt_self zero_f
     go false = sum_up (joined c.strut t) (joined_up c.strut t g.strut u)
 
-through_good : (c : Cursor) (t b : CollapsibleMarginSet) (l : OptionF32) → Good c → Up t → Up b → Good (past_through c t b l)
+through_good : (c : Cursor) (t b : CollapsibleMarginSet) (l : Option Float) → Good c → Up t → Up b → Good (past_through c t b l)
 unfolding past_through
 through_good c t b l g u v =
     record {
@@ -80,12 +79,12 @@ through_good c t b l g u v =
       top = either_up c.first _ _ (joined_up (joined c.top t) b (joined_up c.top t g.top u) v) g.top;
     }
 
-box_good : (f : Frame) (c : Cursor) (t b : CollapsibleMarginSet) (h : Float) (l : OptionF32) → Good c → Up t → Up b → Good (past_box f c t b h l)
+box_good : (f : Frame) (c : Cursor) (t b : CollapsibleMarginSet) (h : Float) (l : Option Float) → Good c → Up t → Up b → Good (past_box f c t b h l)
 unfolding past_box
 box_good f c t b h l g u v = record { y = add-fits binary32 _ _; strut = v; top = either_up c.first _ _ (joined_up c.top t g.top u) g.top }
 
 -- the first baseline past a child: nothing here reads it
-abbrev pub line_past : Frame → Cursor → BlockItem → LayoutOutput → OptionF32
+abbrev pub line_past : Frame → Cursor → BlockItem → LayoutOutput → Option Float
 line_past f c i o = baseline_past c.baseline (place_y f c i o) o.baseline
 
 pub stepped_good : (f : Frame) (c : Cursor) (i : BlockItem) (o : LayoutOutput) → Good c → Up (top_margins i o) → Up (bottom_margins i o) → Good (stepped f c i o)

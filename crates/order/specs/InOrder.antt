@@ -1,13 +1,11 @@
 -- The rows of a layout of steady nodes with nothing kept are in order. Assumes nothing.
-use Rattle.std.specs.Prelude.{◌≡◌, refl, Bool, true, false, Float}
+use Rattle.std.specs.Prelude.{◌≡◌, refl, Bool, true, false, Float, Option, None, Some}
 use Rattle.std.proofs.Common.{sym, ap, subst, ◌∙◌, true≢false}
 use Rattle.std.specs.Float.Ieee.{lt, add}
 use Rattle.std.specs.Float.{binary32}
 use Rattle.std.specs.Float.Ieee.Fits.{add-fits}
 use Rattle.geometry.specs.Floats.{◌⊕◌}
 use Rattle.geometry.specs.Geometry.{zero_f}
-use Rattle.util.specs.declared.OptionF32.{OptionF32}
-use Rattle.util.specs.declared.OptionF32.TheVariants.{None, Some}
 use Rattle.style.specs.Flow.{is_leaf, flow_of}
 use Rattle.style.specs.declared.Flow.{Flow}
 use Rattle.style.specs.declared.Flow.TheVariants.{Gone, Out, In}
@@ -123,7 +121,7 @@ abbrev pub RowsF : Forest Node → Type 0
 RowsF ts = (f : Frame) (c : Cursor) → Good c → InOrderF (lay_f ts f c).rows
 
 -- step M moves nothing
-align_same : (d : OptionF32) (us : Forest Row) → d ≡ None → align_f d us ≡ us
+align_same : (d : Option Float) (us : Forest Row) → d ≡ None → align_f d us ≡ us
 unfolding align_f
 align_same None us e = refl
 align_same (Some x) us e = cc

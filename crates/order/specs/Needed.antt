@@ -1,15 +1,13 @@
 -- Each condition is needed: small pages that a layout accepts, each with one node that is not steady and rows out of order; and each mended, in the class. Computed.
-use Rattle.std.specs.Prelude.{◌≡◌, refl, true, false, List, [], ◌∷◌, ℕ, ◌+◌, ◌*◌, replicate, Float}
+use Rattle.std.specs.Prelude.{◌≡◌, refl, true, false, List, [], ◌∷◌, ℕ, ◌+◌, ◌*◌, replicate, Float, None, Some, Ok}
 use Rattle.std.specs.Float.Ieee.{of_bits, le}
 use Rattle.std.specs.Float.{binary32}
 use Rattle.geometry.specs.Geometry.{zero_f}
-use Rattle.util.specs.declared.OptionF32.TheVariants.{None, Some}
 use Rattle.length.specs.declared.AvailableSpace.TheVariants.{MaxContent}
 use Rattle.steps.specs.Row.{row_at}
 use Rattle.steps.specs.Page.{nodes_in}
 use Rattle.steps.specs.Question.{root_input}
 use Rattle.steps.specs.Results.{Reply, layout_result}
-use Rattle.steps.specs.declared.Answer.TheVariants.{Done}
 use Rattle.steps.specs.declared.LayoutInput.{LayoutInput}
 use Rattle.steps.proofs.Computed.{calls}
 use Rattle.facts.specs.Pages.{Given, given, numbers_of, height, px5, px10, px20, px100, minus}
@@ -35,12 +33,12 @@ laid_out p = layout_result p.words (numbers_in p) (replicate (16 * nodes_in p.wo
 
 -- accepted, and in the class
 abbrev pub Mended : Page → Type 0
-Mended p = ((laid_out p).answer ≡ Done 0) × (keeps_order p.words (numbers_in p) ≡ true)
+Mended p = ((laid_out p).answer ≡ Ok 0) × (keeps_order p.words (numbers_in p) ≡ true)
 
 -- accepted, node j stands above the bottom edge of node i, and not in the class
 abbrev pub Breaks : Page → ℕ → ℕ → Type 0
 Breaks p i j =
-    ((laid_out p).answer ≡ Done 0)
+    ((laid_out p).answer ≡ Ok 0)
     × (le (bottom_edge (row_at (laid_out p).rows (laid_out p).marks i)) (top_edge (row_at (laid_out p).rows (laid_out p).marks j)) ≡ false)
     × (keeps_order p.words (numbers_in p) ≡ false)
 

@@ -1,5 +1,6 @@
 -- What a steady node brings to the steps, where refusal 4 is not given. Assumes nothing.
-use Rattle.std.specs.Prelude.{◌≡◌, Bool, true, ℕ, zero, suc, T, Float}
+use Rattle.geometry.specs.declared.Rect.{Rect}
+use Rattle.std.specs.Prelude.{◌≡◌, Bool, true, ℕ, zero, suc, T, Float, Option, None}
 use Rattle.std.proofs.Math.Path.{refl}
 use Rattle.std.proofs.Common.{sym, subst}
 use Rattle.std.proofs.Math.Bool.{false}
@@ -11,12 +12,9 @@ use Rattle.geometry.specs.Geometry.{zero_f, plus, down}
 use Rattle.limits.specs.Limits.{in_range}
 use Rattle.limits.specs.Bools.{and_fst}
 use Rattle.util.specs.Maybe.{or_zero}
-use Rattle.util.specs.declared.OptionF32.{OptionF32}
-use Rattle.util.specs.declared.OptionF32.TheVariants.{None}
 use Rattle.length.specs.Length.{resolved, resolved_or_zero, resolved_rect}
 use Rattle.length.specs.declared.Length.{Length}
 use Rattle.length.specs.declared.Length.TheVariants.{Auto, Pixels, Fraction}
-use Rattle.length.specs.declared.LengthRect.{LengthRect}
 use Rattle.style.specs.Codes.{length_of}
 use Rattle.style.specs.declared.Position.{Position}
 use Rattle.style.specs.declared.Position.TheVariants.{Static, Relative, Absolute}
@@ -31,29 +29,29 @@ use Rattle.order.specs.Class.{fair, whole, still, unshifted}
 
 -- no margin at the top or bottom is below 0, padding and border down are not, nothing moves the box or its children, its table's height is not below 0
 pub record Steady (s : Style) : Type 0 where
-  pub above : (b : OptionF32) → lt (resolved_or_zero s.margin.top b) zero_f ≡ false
-  pub under : (b : OptionF32) → lt (resolved_or_zero s.margin.bottom b) zero_f ≡ false
-  pub floor : (b : OptionF32) → Solid (down (plus (resolved_rect s.padding b) (resolved_rect s.border b)))
-  pub offset : (i : LengthRect) (rtl : Bool) (b h : OptionF32) → (offset_by s.position i rtl b h).y ≡ zero_f
+  pub above : (b : Option Float) → lt (resolved_or_zero s.margin.top b) zero_f ≡ false
+  pub under : (b : Option Float) → lt (resolved_or_zero s.margin.bottom b) zero_f ≡ false
+  pub floor : (b : Option Float) → Solid (down (plus (resolved_rect s.padding b) (resolved_rect s.border b)))
+  pub offset : (i : Rect Length) (rtl : Bool) (b h : Option Float) → (offset_by s.position i rtl b h).y ≡ zero_f
   pub shift : (free : Float) → align_shift s.align s.safe free ≡ None
   pub text : lt s.measure.height zero_f ≡ false
 
 -- ---- each test, and what it brings
 
-pub fair_number : (l : Length) (b : OptionF32) → fair l ≡ true → lt (resolved_or_zero l b) zero_f ≡ false
-unfolding fair resolved_or_zero resolved or_zero
+pub fair_number : (l : Length) (b : Option Float) → fair l ≡ true → lt (resolved_or_zero l b) zero_f ≡ false
+unfolding fair resolved_or_zero resolved
 fair_number Auto b h = lt_self zero_f
 fair_number (Pixels x) b h = not-true _ h
 fair_number (Fraction x) b h = absurd (false≢true h)
 
-pub whole_number : (k : ℕ) (x : Float) (b : OptionF32) → whole (length_of k x) ≡ true → Solid x → Solid (resolved_or_zero (length_of k x) b)
-unfolding whole length_of resolved_or_zero resolved or_zero
+pub whole_number : (k : ℕ) (x : Float) (b : Option Float) → whole (length_of k x) ≡ true → Solid x → Solid (resolved_or_zero (length_of k x) b)
+unfolding whole length_of resolved_or_zero resolved
 whole_number zero x b h s = zero_solid
 whole_number (suc zero) x b h s = s
 whole_number (suc (suc zero)) x b h s = absurd (false≢true h)
 whole_number (suc (suc (suc n))) x b h s = zero_solid
 
-pub still_offset : (p : Position) (i : LengthRect) (rtl : Bool) (b h : OptionF32) → still p ≡ true → (offset_by p i rtl b h).y ≡ zero_f
+pub still_offset : (p : Position) (i : Rect Length) (rtl : Bool) (b h : Option Float) → still p ≡ true → (offset_by p i rtl b h).y ≡ zero_f
 unfolding still offset_by
 still_offset Static i rtl b h e = refl
 still_offset Relative i rtl b h e = absurd (false≢true e)

@@ -1,5 +1,5 @@
 -- Boxes that margins go through: wherever the next box is put, it stands not above b. Assumes nothing.
-use Rattle.std.specs.Prelude.{◌≡◌, refl, Bool, true, false, cond, ◌&&◌, ℕ, ◌+◌, ◌*◌, Float}
+use Rattle.std.specs.Prelude.{◌≡◌, refl, Bool, true, false, cond, ◌&&◌, ℕ, ◌+◌, ◌*◌, Float, Option}
 use Rattle.std.proofs.Common.{sym, ap, subst, ◌∙◌, inl, true≢false, mul_comm, add_comm}
 use Rattle.std.specs.Float.{nan, inf, fin, binary32}
 use Rattle.std.specs.Float.Ieee.{up, down, lt, add, sum, round, of_bits}
@@ -9,7 +9,6 @@ use Rattle.util.specs.Order.{lt_asym}
 use Rattle.margin.specs.Margin.{joined, sum_of}
 use Rattle.margin.specs.Laws.{joined_assoc, made_numbers}
 use Rattle.margin.specs.declared.CollapsibleMarginSet.{CollapsibleMarginSet}
-use Rattle.util.specs.declared.OptionF32.{OptionF32}
 use Rattle.steps.specs.Stack.{gap_of, at_top, past_through, past_aside, past_hidden}
 use Rattle.steps.specs.declared.Frame.{Frame}
 use Rattle.steps.specs.declared.Cursor.{Cursor}
@@ -71,7 +70,7 @@ join_assoc : (a b c : CollapsibleMarginSet) → Up b → joined (joined a b) c �
 join_assoc a b c u = joined_assoc a b c (made_numbers b (u.0, inl u.1))
 
 -- the gap after a through box is a gap before it, of a larger set
-pub gap_past : (f : Frame) (c : Cursor) (t b s : CollapsibleMarginSet) (l : OptionF32) → Up t → Up b → gap_of f (past_through c t b l) s ≡ gap_of f c (joined t (joined b s))
+pub gap_past : (f : Frame) (c : Cursor) (t b s : CollapsibleMarginSet) (l : Option Float) → Up t → Up b → gap_of f (past_through c t b l) s ≡ gap_of f c (joined t (joined b s))
 unfolding gap_of past_through at_top
 gap_past f c t b s l u v = ap (λ (z : CollapsibleMarginSet). cond (c.first && f.ownStart) zero_f (sum_of z)) (join_assoc (joined c.strut t) b s v ∙ join_assoc c.strut t (joined b s) u)
 
@@ -88,17 +87,17 @@ gap_grow f c t s g u v = go (at_top f c)
 abbrev pub Held : Frame → Cursor → Float → Type 0
 Held f c b = (t : CollapsibleMarginSet) → Up t → lt (top_of f c t) b ≡ false
 
-through_y : (c : Cursor) (t b : CollapsibleMarginSet) (l : OptionF32) → (past_through c t b l).y ≡ c.y
+through_y : (c : Cursor) (t b : CollapsibleMarginSet) (l : Option Float) → (past_through c t b l).y ≡ c.y
 unfolding past_through
 through_y c t b l = refl
 
-past_alike : (f : Frame) (c : Cursor) (t b s : CollapsibleMarginSet) (l : OptionF32) (x : Float) → Up t → Up b → lt (add binary32 (past_through c t b l).y (gap_of f (past_through c t b l) s)) x ≡ lt (add binary32 c.y (gap_of f c (joined t (joined b s)))) x
+past_alike : (f : Frame) (c : Cursor) (t b s : CollapsibleMarginSet) (l : Option Float) (x : Float) → Up t → Up b → lt (add binary32 (past_through c t b l).y (gap_of f (past_through c t b l) s)) x ≡ lt (add binary32 c.y (gap_of f c (joined t (joined b s)))) x
 past_alike f c t b s l x u v = ap (λ (z : Float). lt (add binary32 z (gap_of f (past_through c t b l) s)) x) (through_y c t b l) ∙ ap (λ (z : Float). lt (add binary32 c.y z) x) (gap_past f c t b s l u v)
 
-pub held_through : (f : Frame) (c : Cursor) (t b : CollapsibleMarginSet) (l : OptionF32) (x : Float) → Up t → Up b → Held f c x → Held f (past_through c t b l) x
+pub held_through : (f : Frame) (c : Cursor) (t b : CollapsibleMarginSet) (l : Option Float) (x : Float) → Up t → Up b → Held f c x → Held f (past_through c t b l) x
 held_through f c t b l x u v h s w = past_alike f c t b s l x u v ∙ h (joined t (joined b s)) (joined_up t (joined b s) u (joined_up b s v w))
 
-pub held_start : (f : Frame) (c : Cursor) (t b : CollapsibleMarginSet) (l : OptionF32) → Good c → Up t → Up b → Held f (past_through c t b l) (top_of f c t)
+pub held_start : (f : Frame) (c : Cursor) (t b : CollapsibleMarginSet) (l : Option Float) → Good c → Up t → Up b → Held f (past_through c t b l) (top_of f c t)
 held_start f c t b l g u v s w =
     let x = joined b s in
     let y = joined_up b s v w in

@@ -1,9 +1,8 @@
 -- Rows keep their order at exit of every public call that leaves rows: plain, over records, from C; a layout, and a relayout after any chain of calls.
-use Rattle.std.specs.Prelude.{◌≡◌, refl, Bool, true, false, List, ℕ, ◌/◌, ◌^◌, Float}
+use Rattle.std.specs.Prelude.{◌≡◌, refl, Bool, true, false, List, ℕ, ◌/◌, ◌^◌, Float, Ok}
 use Rattle.std.proofs.Common.{sym, ap, ◌∙◌, arith}
 use Rattle.steps.specs.Row.{bit}
 use Rattle.steps.specs.Results.{Reply, layout_result, relayout_result}
-use Rattle.steps.specs.declared.Answer.TheVariants.{Done}
 use Rattle.steps.specs.declared.LayoutInput.{LayoutInput}
 use Rattle.laws.specs.Tables.{SameShape, Named, Calls, laid_out, laid_again}
 use Rattle.laws.specs.Answers.{relayout_accepted}
@@ -35,10 +34,10 @@ yes false e = absurd (omega arith)
 
 -- ---- a layout
 module _ (ws : List ℕ) (xs rs : List Float) (ms cw : List ℕ) (cx : List Float) (q : LayoutInput) (rs' : List Float) (ms' cw' : List ℕ) (cx' : List Float) where
-  pub layout-leaves-order : (k : ℕ) → keeps_order ws xs ≡ true → Replied (layout_result ws xs rs ms cw cx q) (Done k) rs' ms' cw' cx' → RowsInOrder ws rs' ms'
+  pub layout-leaves-order : (k : ℕ) → keeps_order ws xs ≡ true → Replied (layout_result ws xs rs ms cw cx q) (Ok k) rs' ms' cw' cx' → RowsInOrder ws rs' ms'
   layout-leaves-order k s c = rows_keep_order ws xs q rs' ms' (by_layout ws xs rs ms cw cx q k rs' ms' cw' cx' c) s
 
-  pub records-layout-leaves-order : (k : ℕ) (lent out : List Record) → keeps_order ws xs ≡ true → RecordsReplied (layout_records_result ws xs rs ms cw cx lent q) (Done k) rs' ms' cw' cx' out → RowsInOrder ws rs' ms'
+  pub records-layout-leaves-order : (k : ℕ) (lent out : List Record) → keeps_order ws xs ≡ true → RecordsReplied (layout_records_result ws xs rs ms cw cx lent q) (Ok k) rs' ms' cw' cx' out → RowsInOrder ws rs' ms'
   records-layout-leaves-order k lent out s c = rows_keep_order ws xs q rs' ms' (by_layout_records ws xs rs ms cw cx lent q k rs' ms' cw' cx' out c) s
 
   -- y is what mearrasot_keeps_order answers, r what mearrasot_layout does
@@ -48,10 +47,10 @@ module _ (ws : List ℕ) (xs rs : List Float) (ms cw : List ℕ) (cx : List Floa
 -- ---- a relayout, from rows that calls left, of the same shape, with every changed node named
 module _ (ws : List ℕ) (xs : List Float) (q : LayoutInput) (rs : List Float) (ms : List ℕ) (ws' : List ℕ) (xs' : List Float) (cw : List ℕ) (cx : List Float) (es : List ℕ) (p : LayoutInput) (rs' : List Float) (ms' cw' : List ℕ) (cx' : List Float)
     (left : Left ws xs q rs ms) (shape : SameShape ws ws') (named : Named es ws xs ws' xs') where
-  pub relayout-leaves-order : (k : ℕ) → keeps_order ws' xs' ≡ true → Replied (relayout_result ws' xs' rs ms cw cx es p) (Done k) rs' ms' cw' cx' → RowsInOrder ws' rs' ms'
+  pub relayout-leaves-order : (k : ℕ) → keeps_order ws' xs' ≡ true → Replied (relayout_result ws' xs' rs ms cw cx es p) (Ok k) rs' ms' cw' cx' → RowsInOrder ws' rs' ms'
   relayout-leaves-order k s c = rows_keep_order ws' xs' p rs' ms' (by_relayout ws xs q rs ms ws' xs' cw cx es p k rs' ms' cw' cx' left shape named c) s
 
-  pub records-relayout-leaves-order : (k : ℕ) (lent out : List Record) → keeps_order ws' xs' ≡ true → RecordsReplied (relayout_records_result ws' xs' rs ms cw cx lent es p) (Done k) rs' ms' cw' cx' out → RowsInOrder ws' rs' ms'
+  pub records-relayout-leaves-order : (k : ℕ) (lent out : List Record) → keeps_order ws' xs' ≡ true → RecordsReplied (relayout_records_result ws' xs' rs ms cw cx lent es p) (Ok k) rs' ms' cw' cx' out → RowsInOrder ws' rs' ms'
   records-relayout-leaves-order k lent out s c = rows_keep_order ws' xs' p rs' ms' (by_relayout_records ws xs q rs ms ws' xs' cw cx lent es p k rs' ms' cw' cx' out left shape named c) s
 
   pub c-relayout-leaves-order : (y r : ℕ) → y ≡ bit (keeps_order ws' xs') → y ≡ 1 → Answered (relayout_result ws' xs' rs ms cw cx es p) r rs' ms' cw' cx' → r / 2 ^ 32 ≡ 0 → RowsInOrder ws' rs' ms'

@@ -1,5 +1,8 @@
 -- Ask once, trust it: of one page and one question the both-axes size question gives numbers 2 and 3 of the root's row that a layout leaves.
-use Rattle.std.specs.Prelude.{◌≡◌, Bool, ◌||◌, ℕ, ◌+◌, ◌-◌, ◌*◌, ◌<◌, get_or, Float}
+use Rattle.steps.specs.declared.Refusal.TheVariants.{TooLarge}
+use Rattle.steps.specs.declared.Refusal.{Refusal}
+use Rattle.geometry.specs.declared.Size.{Size}
+use Rattle.std.specs.Prelude.{◌≡◌, Bool, ◌||◌, ℕ, ◌+◌, ◌-◌, ◌*◌, ◌<◌, get_or, Float, Result, Ok, Err}
 use Rattle.std.proofs.Math.Path.{refl, sym}
 use Rattle.std.proofs.Common.{ap, ◌∙◌, arith}
 use Rattle.std.proofs.Math.Bool.{true, false}
@@ -19,11 +22,6 @@ use Rattle.steps.specs.Noes.{bad_tables, bad_rows, bad_style, bad_row}
 use Rattle.steps.specs.Results.{rows_out, accepted, over_limit, replied, tested, layout_result, size_result}
 use Rattle.steps.specs.declared.Question.{Question}
 use Rattle.steps.specs.declared.RequestedAxis.TheVariants.{Both}
-use Rattle.steps.specs.declared.Answer.{Answer}
-use Rattle.steps.specs.declared.Answer.TheVariants as answer
-use Rattle.steps.specs.declared.SizeAnswer.{SizeAnswer}
-use Rattle.steps.specs.declared.SizeAnswer.TheVariants.{Sized, Refused}
-use Rattle.steps.specs.declared.Tested.TheVariants.{Pass}
 use Rattle.tables.specs.Refusals.{Sound, LayoutSound}
 use Rattle.tables.proofs.Passing.{sized}
 use Rattle.tables.proofs.GoodPage.{site_leaf}
@@ -71,7 +69,7 @@ module _ (ws : List ℕ) (xs : List Float) (q : Question) where
     -- the rows of an accepted layout
     accepted-rows : LayoutSound ws xs rs ms cw cx (root_input q) → Sound (bad_row laid_rows) (nodes_in ws) → (layout_result ws xs rs ms cw cx (root_input q)).rows ≡ laid_rows
     unfolding layout_result tested replied over_limit accepted
-    accepted-rows d s = rw ((layout-exactly ws xs rs ms cw cx (root_input q) Pass).given d, nowhere-lowest (bad_row laid_rows) (nodes_in ws) s)
+    accepted-rows d s = rw ((layout-exactly ws xs rs ms cw cx (root_input q) (Ok tt)).given d, nowhere-lowest (bad_row laid_rows) (nodes_in ws) s)
 
     tables-fit : LayoutSound ws xs rs ms cw cx (root_input q) → bad_tables ws xs ≡ false
     tables-fit d = or_left (bad_tables ws xs) (bad_rows ws rs ms) d.lengths
@@ -79,28 +77,28 @@ module _ (ws : List ℕ) (xs : List Float) (q : Question) where
     some_node : LayoutSound ws xs rs ms cw cx (root_input q) → 0 < nodes_in ws
     some_node d = (sized ws xs (tables-fit d)).some
 
-    module _ (a : Answer) (rs' : List Float) (ms' cw' : List ℕ) (cx' : List Float) (call : Replied (layout_result ws xs rs ms cw cx (root_input q)) a rs' ms' cw' cx') (r : SizeAnswer) (asked : SizeReplied (size_result ws xs (root_input q) Both) r) where
+    module _ (a : Result ℕ Refusal) (rs' : List Float) (ms' cw' : List ℕ) (cx' : List Float) (call : Replied (layout_result ws xs rs ms cw cx (root_input q)) a rs' ms' cw' cx') (r : Result (Size Float) Refusal) (asked : SizeReplied (size_result ws xs (root_input q) Both) r) where
       -- An accepted layout: the size question is answered too, with the root's size as the layout left it.
-      pub asked-is-laid : (k : ℕ) → a ≡ answer.Done k → r ≡ Sized (root_size rs')
+      pub asked-is-laid : (k : ℕ) → a ≡ Ok k → r ≡ Ok (root_size rs')
       asked-is-laid k e =
-          let g = (layout-gives ws xs rs ms cw cx (root_input q) a rs' ms' cw' cx' call (answer.Done k)).only e in
+          let g = (layout-gives ws xs rs ms cw cx (root_input q) a rs' ms' cw' cx' call (Ok k)).only e in
           let d = g.0 in
           let same : size_of (page_of ws xs []) (root_input q) Both ≡ root_size laid_rows = size-of-rows (d.page.codes 0 (some_node d)) in
           let left : rs' ≡ laid_rows = call.rows_are ∙ accepted-rows d g.1 in
           let small : large_size (size_of (page_of ws xs []) (root_input q) Both) ≡ false = ap large_size same ∙ small_row (g.1 0 (some_node d)) in
-          (size-gives ws xs (root_input q) Both (Sized (root_size rs')) r asked.answer_is).given ((tables-fit d, d.page), small, ap root_size left ∙ sym same)
+          (size-gives ws xs (root_input q) Both (Ok (root_size rs')) r asked.answer_is).given ((tables-fit d, d.page), small, ap root_size left ∙ sym same)
 
       -- A size that is refused by 8: a layout that passes its tests is refused by 8 too, at the root. (The other way round a layout may be refused by 8 for another row or number.)
-      pub too-large-is-laid : (i : NodeId) → r ≡ Refused (answer.TooLarge i) → LayoutSound ws xs rs ms cw cx (root_input q) → a ≡ answer.TooLarge (record { 0 = 0 })
+      pub too-large-is-laid : (i : NodeId) → r ≡ Err (TooLarge i) → LayoutSound ws xs rs ms cw cx (root_input q) → a ≡ Err (TooLarge (record { 0 = 0 }))
       too-large-is-laid i e d =
-          let g = (size-gives ws xs (root_input q) Both (Refused (answer.TooLarge i)) r asked.answer_is).only e in
+          let g = (size-gives ws xs (root_input q) Both (Err (TooLarge i)) r asked.answer_is).only e in
           let same = size-of-rows (d.page.codes 0 (some_node d)) in
           let large : bad_row laid_rows 0 ≡ true = large-row (ap large_size (sym same) ∙ g.1) in
-          (layout-gives ws xs rs ms cw cx (root_input q) a rs' ms' cw' cx' call (answer.TooLarge (record { 0 = 0 }))).given (d, record { within = some_node d; fault = large; lower = λ j l. absurd (omega (arith, l)) })
+          (layout-gives ws xs rs ms cw cx (root_input q) a rs' ms' cw' cx' call (Err (TooLarge (record { 0 = 0 })))).given (d, record { within = some_node d; fault = large; lower = λ j l. absurd (omega (arith, l)) })
 
       -- Refused by 8 at a root whose own two numbers are not too large, or at another node: the size question answers.
-      pub sized-beside-large : (i : NodeId) → a ≡ answer.TooLarge i → large_size (root_size laid_rows) ≡ false → r ≡ Sized (root_size laid_rows)
+      pub sized-beside-large : (i : NodeId) → a ≡ Err (TooLarge i) → large_size (root_size laid_rows) ≡ false → r ≡ Ok (root_size laid_rows)
       sized-beside-large i e h =
-          let d = ((layout-gives ws xs rs ms cw cx (root_input q) a rs' ms' cw' cx' call (answer.TooLarge i)).only e).0 in
+          let d = ((layout-gives ws xs rs ms cw cx (root_input q) a rs' ms' cw' cx' call (Err (TooLarge i))).only e).0 in
           let same = size-of-rows (d.page.codes 0 (some_node d)) in
-          (size-gives ws xs (root_input q) Both (Sized (root_size laid_rows)) r asked.answer_is).given ((tables-fit d, d.page), ap large_size same ∙ h, sym same)
+          (size-gives ws xs (root_input q) Both (Ok (root_size laid_rows)) r asked.answer_is).given ((tables-fit d, d.page), ap large_size same ∙ h, sym same)

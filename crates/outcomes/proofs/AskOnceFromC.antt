@@ -1,5 +1,5 @@
 -- Ask once, trust it: of one page and one question the both-axes size question gives numbers 2 and 3 of the root's row that a layout leaves.
-use Rattle.std.specs.Prelude.{◌≡◌, ℕ, ◌-◌, ◌/◌, ◌^◌, Float}
+use Rattle.std.specs.Prelude.{◌≡◌, ℕ, ◌-◌, ◌/◌, ◌^◌, Float, Ok}
 use Rattle.std.proofs.Math.Path.{sym}
 use Rattle.std.proofs.Common.{ap, ◌∙◌}
 use Rattle.std.proofs.Math.Bool.{false}
@@ -10,8 +10,6 @@ use Rattle.steps.specs.Noes.{paper}
 use Rattle.steps.specs.Results.{layout_result, size_result}
 use Rattle.steps.specs.declared.Question.{Question}
 use Rattle.steps.specs.declared.RequestedAxis.TheVariants.{Both}
-use Rattle.steps.specs.declared.Answer.TheVariants as answer
-use Rattle.steps.specs.declared.SizeAnswer.TheVariants.{Sized}
 use Rattle.asked.specs.Question.{plain_question, axis_of}
 use Rattle.face.specs.Answered as face
 use Rattle.face.specs.Answered.{Answered}
@@ -31,7 +29,7 @@ module _ (ws : List ℕ) (xs rs : List Float) (ms cw : List ℕ) (cx : List Floa
       → (word2 : ℕ) (size : List Float) → face.Sized (size_result ws xs (root_input question) (axis_of how)) word2 size → word / 2 ^ 32 ≡ 0 → AskedAlike word2 size rs'
   c-asked-is-laid word rs' ms' cw' cx' call word2 size asked e =
       let want = layout_result ws xs rs ms cw cx (root_input question) in
-      let k : want.answer ≡ answer.Done (paper want.answer).1 = done_number want.answer (sym call.answer_is.number_is ∙ e) in
+      let k : want.answer ≡ Ok (paper want.answer).1 = done_number want.answer (sym call.answer_is.number_is ∙ e) in
       let s = asked-is-laid ws xs question rs ms cw cx want.answer _ _ _ _ (itself want) (size_result ws xs (root_input question) Both) (itself_sized _) (paper want.answer).1 k in
       let t : face.Sized (size_result ws xs (root_input question) Both) word2 size = rw both_axes at asked in
-      sized_word (size_result ws xs (root_input question) Both) rs' word2 size (s ∙ ap (λ (l : List Float). Sized (root_size l)) (sym call.rows_are)) t
+      sized_word (size_result ws xs (root_input question) Both) rs' word2 size (s ∙ ap (λ (l : List Float). Ok (root_size l)) (sym call.rows_are)) t

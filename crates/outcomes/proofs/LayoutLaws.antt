@@ -1,11 +1,11 @@
 -- A layout: each of its answers exactly if it is due, and what the answer says of lent memory.
-use Rattle.std.specs.Prelude.{◌≡◌, List, [], ℕ, Float}
+use Rattle.steps.specs.declared.Refusal.{Refusal}
+use Rattle.std.specs.Prelude.{◌≡◌, List, [], ℕ, Float, Result}
 use Rattle.steps.specs.Page.{nodes_in, page_of}
 use Rattle.steps.specs.Layout.{fresh}
 use Rattle.steps.specs.Noes.{paper, layout_tested}
 use Rattle.steps.specs.Results.{layout_result}
 use Rattle.steps.specs.declared.LayoutInput.{LayoutInput}
-use Rattle.steps.specs.declared.Answer.{Answer}
 use Rattle.tables.specs.Refusals.{LayoutDue}
 use Rattle.tables.proofs.Exactly.{Exactly, layout-exactly}
 use Rattle.layout.specs.Public.{Replied}
@@ -17,16 +17,16 @@ use Rattle.outcomes.specs.Layout.{LayoutGiven}
 
 module _ (ws : List ℕ) (xs rs : List Float) (ms cw : List ℕ) (cx : List Float) (q : LayoutInput) where
   never : Never (LayoutDue ws xs rs ms cw cx q)
-  never = record { done = λ k d. d; large = λ i d. d }
+  never = record { large = λ i d. d }
 
   -- all nine outcomes, of an answer that is the definition's
-  pub layout-answers : (a : Answer) → a ≡ (layout_result ws xs rs ms cw cx q).answer → (b : Answer) → Exactly (a ≡ b) (LayoutGiven ws xs rs ms cw cx q b)
+  pub layout-answers : (a : Result ℕ Refusal) → a ≡ (layout_result ws xs rs ms cw cx q).answer → (b : Result ℕ Refusal) → Exactly (a ≡ b) (LayoutGiven ws xs rs ms cw cx q b)
   unfolding layout_result
   layout-answers a e b = seen_exactly (layout_tested ws xs rs ms cw cx q) (LayoutDue ws xs rs ms cw cx q) (layout-exactly ws xs rs ms cw cx q) never (nodes_in ws) (fresh (page_of ws xs []) q).rows rs ms cw cx a e b
 
-  module _ (a : Answer) (rs' : List Float) (ms' cw' : List ℕ) (cx' : List Float) (call : Replied (layout_result ws xs rs ms cw cx q) a rs' ms' cw' cx') where
+  module _ (a : Result ℕ Refusal) (rs' : List Float) (ms' cw' : List ℕ) (cx' : List Float) (call : Replied (layout_result ws xs rs ms cw cx q) a rs' ms' cw' cx') where
     -- all nine outcomes
-    pub layout-gives : (b : Answer) → Exactly (a ≡ b) (LayoutGiven ws xs rs ms cw cx q b)
+    pub layout-gives : (b : Result ℕ Refusal) → Exactly (a ≡ b) (LayoutGiven ws xs rs ms cw cx q b)
     layout-gives b = layout-answers a call.answer_is b
 
     -- 1 to 7, 8, and no other number

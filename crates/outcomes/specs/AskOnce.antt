@@ -1,5 +1,7 @@
 -- Ask once, trust it: of one page and one question the both-axes size question gives numbers 2 and 3 of the root's row that a layout leaves.
-use Rattle.std.specs.Prelude.{◌≡◌, not, ◌&&◌, ℕ, ◌-◌, ◌/◌, ◌^◌, get_or, eqb, Float}
+use Rattle.steps.specs.declared.Refusal.TheVariants.{Lengths, Tree, Codes, Numbers, Room, Edits, NotLaid, TooLarge}
+use Rattle.steps.specs.declared.Refusal.{Refusal}
+use Rattle.std.specs.Prelude.{◌≡◌, not, ◌&&◌, ℕ, ◌-◌, ◌/◌, ◌^◌, get_or, eqb, Float, None, Result, Ok, Err}
 use Rattle.std.proofs.Math.Path.{refl}
 use Rattle.std.proofs.Common.{ap, arith, eqb-true}
 use Rattle.std.proofs.Math.Bool.{false}
@@ -8,7 +10,6 @@ use Rattle.std.proofs.lemmas.Bool.{not-false}
 use Rattle.geometry.specs.Geometry.{zero_f}
 use Rattle.geometry.specs.declared.Size.{Size}
 use Rattle.limits.specs.Bools.{or_right}
-use Rattle.util.specs.declared.OptionF32.TheVariants.{None}
 use Rattle.style.specs.Codes.{code_at, clear_from, unit_of}
 use Rattle.style.specs.Style.{word_at}
 use Rattle.tree.specs.Tree.{Forest, node}
@@ -17,22 +18,18 @@ use Rattle.steps.specs.Scan.{some}
 use Rattle.steps.specs.Row.{Row, row_numbers, laid_row}
 use Rattle.steps.specs.Question.{root_input}
 use Rattle.steps.specs.SizeQuestion.{axes}
-use Rattle.steps.specs.Noes.{bad_unit, bad_align, bad_codes, ratio_beside_fraction, bad_style, paper}
+use Rattle.steps.specs.Noes.{bad_unit, bad_align, bad_codes, ratio_beside_fraction, bad_style, paper, refusal_paper}
 use Rattle.steps.specs.Results.{Reply, rows_out, size_paper}
 use Rattle.steps.specs.declared.LayoutInput.{LayoutInput}
 use Rattle.steps.specs.declared.LayoutOutput.{LayoutOutput}
 use Rattle.steps.specs.declared.Question.{Question}
-use Rattle.steps.specs.declared.Answer.{Answer}
-use Rattle.steps.specs.declared.Answer.TheVariants as answer
-use Rattle.steps.specs.declared.SizeAnswer.{SizeAnswer}
-use Rattle.steps.specs.declared.SizeAnswer.TheVariants.{Sized}
 use Rattle.tables.specs.Leaves.{leaf_word}
 use Rattle.layout.specs.Public.{Replied}
 use Rattle.measure.specs.Public.{SizeReplied}
 use Rattle.face.specs.Answered as face
 
 -- numbers 2 and 3 of row 0
-abbrev pub root_size : List Float → Size
+abbrev pub root_size : List Float → Size Float
 root_size rs = axes (get_or rs 2 zero_f) (get_or rs 3 zero_f)
 
 -- ---- the root of a page that passes 3 is a block
@@ -66,28 +63,28 @@ first_row q o p ks = ap root_size (flat_t_node (λ _ r. row_numbers r) (laid_row
 pub itself : (r : Reply) → Replied r r.answer r.rows r.marks r.words r.numbers
 itself r = record { answer_is = refl; paper_is = refl; rows_are = refl; marks_are = refl; words_are = refl; numbers_are = refl }
 
-pub itself_sized : (r : SizeAnswer) → SizeReplied r r
+pub itself_sized : (r : Result (Size Float) Refusal) → SizeReplied r r
 itself_sized r = record { answer_is = refl; paper_is = refl }
 
-pub done_number : (a : Answer) → (paper a).0 ≡ 0 → a ≡ answer.Done (paper a).1
-unfolding paper
-done_number (answer.Done k) e = refl
-done_number answer.Lengths e = absurd (omega (arith, e))
-done_number (answer.Tree i) e = absurd (omega (arith, e))
-done_number (answer.Codes i) e = absurd (omega (arith, e))
-done_number (answer.Numbers k) e = absurd (omega (arith, e))
-done_number answer.Room e = absurd (omega (arith, e))
-done_number (answer.Edits k) e = absurd (omega (arith, e))
-done_number answer.NotLaid e = absurd (omega (arith, e))
-done_number (answer.TooLarge i) e = absurd (omega (arith, e))
+pub done_number : (a : Result ℕ Refusal) → (paper a).0 ≡ 0 → a ≡ Ok (paper a).1
+unfolding paper refusal_paper
+done_number (Ok k) e = refl
+done_number (Err Lengths) e = absurd (omega (arith, e))
+done_number (Err (Tree i)) e = absurd (omega (arith, e))
+done_number (Err (Codes i)) e = absurd (omega (arith, e))
+done_number (Err (Numbers k)) e = absurd (omega (arith, e))
+done_number (Err Room) e = absurd (omega (arith, e))
+done_number (Err (Edits k)) e = absurd (omega (arith, e))
+done_number (Err NotLaid) e = absurd (omega (arith, e))
+done_number (Err (TooLarge i)) e = absurd (omega (arith, e))
 
 -- number 0, and the two floats
 pub record AskedAlike (word : ℕ) (size rows : List Float) : Type 0 where
   pub answered : word / 2 ^ 32 ≡ 0
   pub same : size ≡ get_or rows 2 zero_f ∷ get_or rows 3 zero_f ∷ []
 
-pub sized_word : (want : SizeAnswer) (rows : List Float) (word : ℕ) (size : List Float) → want ≡ Sized (root_size rows) → face.Sized want word size → AskedAlike word size rows
+pub sized_word : (want : Result (Size Float) Refusal) (rows : List Float) (word : ℕ) (size : List Float) → want ≡ Ok (root_size rows) → face.Sized want word size → AskedAlike word size rows
 unfolding size_paper axes
 sized_word want rows word size e h =
-    let g : face.Sized (Sized (root_size rows)) word size = rw e at h in
+    let g : face.Sized (Ok (root_size rows)) word size = rw e at h in
     record { answered = g.answer_is.number_is; same = g.size_is }

@@ -1,11 +1,11 @@
 -- The calls from C: what holds of the plain calls, by the number and place in the word that they return.
-use Rattle.std.specs.Prelude.{◌≡◌, List, Float}
+use Rattle.steps.specs.declared.Refusal.{Refusal}
+use Rattle.std.specs.Prelude.{◌≡◌, List, Float, Result}
 use Rattle.std.proofs.Math.Path.{refl}
 use Rattle.std.proofs.Common.{sym, ◌∙◌, subst}
 use Prim.Native.Nat.{ℕ}
 use Rattle.steps.specs.Noes.{paper}
 use Rattle.steps.specs.Results.{Reply}
-use Rattle.steps.specs.declared.Answer.{Answer}
 use Rattle.tables.proofs.Exactly.{Exactly}
 use Rattle.layout.specs.Public.{Replied}
 use Rattle.asked.specs.Halves.{Halves}
@@ -23,6 +23,6 @@ one_pair p s r h k =
 pub plain_reply : (want : Reply) (r : ℕ) (rs : List Float) (ms cw : List ℕ) (cx : List Float) → Answered want r rs ms cw cx → Replied want want.answer rs ms cw cx
 plain_reply want r rs ms cw cx c = record { answer_is = refl; paper_is = refl; rows_are = c.rows_are; marks_are = c.marks_are; words_are = c.pairs_are; numbers_are = c.triples_are }
 
-pub by_word : (a b : Answer) (r : ℕ) (G : Type 0) → Halves (paper a) r → Exactly (a ≡ b) G → Exactly (Halves (paper b) r) G
+pub by_word : (a b : Result ℕ Refusal) (r : ℕ) (G : Type 0) → Halves (paper a) r → Exactly (a ≡ b) G → Exactly (Halves (paper b) r) G
 by_word a b r G h e =
-    record { only = λ k. e.only (paper_settles a b (one_pair (paper a) (paper b) r h k)); given = λ g. subst (λ (x : Answer). Halves (paper x) r) (e.given g) h }
+    record { only = λ k. e.only (paper_settles a b (one_pair (paper a) (paper b) r h k)); given = λ g. subst (λ (x : Result ℕ Refusal). Halves (paper x) r) (e.given g) h }

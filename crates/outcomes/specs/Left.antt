@@ -1,13 +1,11 @@
 -- What an answer's number says of lent memory: 1 to 7 leave all as lent, 8 leaves rows zero and the candidates as they came, and there is no other number.
-use Rattle.std.specs.Prelude.{◌≡◌, List, ℕ, ◌≤◌, length, replicate, Float}
+use Rattle.steps.specs.declared.Refusal.TheVariants.{Lengths, Tree, Codes, Numbers, Room, Edits, NotLaid, TooLarge}
+use Rattle.steps.specs.declared.Refusal.{Refusal}
+use Rattle.std.specs.Prelude.{◌≡◌, List, ℕ, ◌≤◌, length, replicate, Float, Result, Ok, Err, ⊤}
 use Rattle.std.proofs.Common.{arith}
 use Rattle.geometry.specs.Geometry.{zero_f}
-use Rattle.steps.specs.Noes.{paper}
+use Rattle.steps.specs.Noes.{paper, refusal_paper}
 use Rattle.steps.specs.Results.{Reply}
-use Rattle.steps.specs.declared.Answer.{Answer}
-use Rattle.steps.specs.declared.Answer.TheVariants as answer
-use Rattle.steps.specs.declared.Tested.{Tested}
-use Rattle.steps.specs.declared.Tested.TheVariants.{Refuse}
 use Rattle.outcomes.specs.Given.{Never}
 
 -- all as lent
@@ -35,14 +33,13 @@ abbrev pub LeavesR : Reply → List Float → List ℕ → List ℕ → List Flo
 LeavesR r rs ms cw cx = LeftBy (paper r.answer).0 rs r.rows ms r.marks cw r.words cx r.numbers
 
 -- tests that never refuse with 8 refuse with 7 at most
-pub refuse_seven : (D : Tested → Type 0) → Never D → (a : Answer) → D (Refuse a) → (paper a).0 ≤ 7
-unfolding paper
-refuse_seven D never (answer.Done k) d = omega arith
-refuse_seven D never answer.Lengths d = omega arith
-refuse_seven D never (answer.Tree i) d = omega arith
-refuse_seven D never (answer.Codes i) d = omega arith
-refuse_seven D never (answer.Numbers k) d = omega arith
-refuse_seven D never answer.Room d = omega arith
-refuse_seven D never (answer.Edits k) d = omega arith
-refuse_seven D never answer.NotLaid d = omega arith
-refuse_seven D never (answer.TooLarge i) d = absurd (never.large i d)
+pub refuse_seven : (D : Result ⊤ Refusal → Type 0) → Never D → (a : Refusal) → D (Err a) → (refusal_paper a).0 ≤ 7
+unfolding refusal_paper
+refuse_seven D never Lengths d = omega arith
+refuse_seven D never (Tree i) d = omega arith
+refuse_seven D never (Codes i) d = omega arith
+refuse_seven D never (Numbers k) d = omega arith
+refuse_seven D never Room d = omega arith
+refuse_seven D never (Edits k) d = omega arith
+refuse_seven D never NotLaid d = omega arith
+refuse_seven D never (TooLarge i) d = absurd (never.large i d)

@@ -1,23 +1,20 @@
 -- One line of a page's nodes: what it does to the tables, and to the lines that are left. Assumes nothing.
-use mathlib.Core.Path.{◌≡◌, refl, sym, ◌∙◌, ap}
-use mathlib.Core.Bool.{Bool, true, false, cond, ◌&&◌}
+use mathlib.Core.Path.{◌≡◌, refl, ◌∙◌, ap}
+use mathlib.Core.Bool.{Bool, cond, ◌&&◌}
 use mathlib.Core.List.{List, [], ◌∷◌}
 use Prim.Native.Nat.{ℕ, suc, ◌+◌, ◌-◌, ◌*◌, ◌<◌, ◌≤◌}
 use native.Mathlib.Omega.{arith}
-use lib.ListN.{length, set, length-set, take, drop, drop_of_length-le, length-drop}
-use lib.Seq.{sets, length-sets}
-use lib.Dec.{eqb, ltb}
+use lib.ListN.{length, set, take, drop, drop_of_length-le, length-drop}
+use lib.Seq.{sets}
+use lib.Dec.{eqb}
 use lib.Ieee.{Float}
 use borrow.Author.Tests.{lt-ltb, le-ltb}
 use Rattle.style.specs.Style.{number_place}
-use Rattle.text.specs.Pieces.{lines_of, up_to, past, Ends}
+use Rattle.text.specs.Pieces.{lines_of, Ends}
 use Rattle.text.specs.Laws.{first_line, no_lines}
-use Rattle.lines.specs.Lines.{node_line, num_line}
-use Rattle.lines.specs.declared.NodeLine.TheVariants as nodes
-use Rattle.lines.specs.declared.NumLine.TheVariants as nums
 use Rattle.lines.specs.declared.NodeWords.{NodeWords}
 use Rattle.lines.specs.declared.FieldNumber.{FieldNumber}
-use Rattle.page.specs.Body.{Tables, tables, Step, Stop, Go, node_step, num_step, num_in, node_in, body_line, Body, Wrong, Right, rest, Stepped, Ended}
+use Rattle.page.specs.Body.{Tables, tables, Step, Stop, Go, node_step, num_step, body_line, Wrong, Right, rest, Stepped}
 
 pub node_stop : (n : ℕ) (t : Tables) (w : NodeWords) → n ≤ t.count → node_step n t w ≡ Stop
 unfolding node_step
@@ -69,19 +66,6 @@ four l i a b c d =
     let q : i + 2 ≡ suc (suc i) = omega arith in
     let r : i + 3 ≡ suc (suc (suc i)) = omega arith in
     rw (p, q, r)
-
-module _ (n : ℕ) (t : Tables) (l : List ℕ) where
-  pub line-node : (w : NodeWords) → node_line l ≡ nodes.Is w → body_line n t l ≡ node_step n t w
-  unfolding body_line node_in
-  line-node w e = rw e
-
-  pub line-num : (x : FieldNumber) → node_line l ≡ nodes.Bad → num_line l ≡ nums.Is x → body_line n t l ≡ num_step n t x
-  unfolding body_line node_in num_in
-  line-num x e f = rw (e, f)
-
-  pub line-bad : node_line l ≡ nodes.Bad → num_line l ≡ nums.Bad → body_line n t l ≡ Stop
-  unfolding body_line node_in num_in
-  line-bad e f = rw (e, f)
 
 -- what a call for one line says of the lines that are left
 module _ (whole : Bool) (n k : ℕ) (t : Tables) (s : List ℕ) (at e : ℕ) (within : at < length s) (ends : Ends 10 at s e) (r : ℕ) (ws : List ℕ) (xs : List Float) where

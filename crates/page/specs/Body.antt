@@ -1,14 +1,12 @@
 -- The lines after the first five: a node's four words, and numbers of the node above.
-use Rattle.std.specs.Prelude.{◌≡◌, Bool, true, false, cond, ◌&&◌, List, [], ◌∷◌, ℕ, ◌+◌, ◌-◌, ◌*◌, ◌<◌, ◌≤◌, length, set, eqb, ltb, Float}
+use Rattle.std.specs.Prelude.{◌≡◌, Bool, cond, ◌&&◌, List, [], ◌∷◌, ℕ, ◌+◌, ◌-◌, ◌*◌, ◌<◌, ◌≤◌, length, set, eqb, ltb, Float, Option, None, Some, MatchOption}
 use Rattle.std.proofs.lemmas.List.Edits.{sets}
 use Rattle.style.specs.Style.{number_place}
 use Rattle.lines.specs.Lines.{node_line, num_line}
 use Rattle.lines.specs.declared.NodeWords.{NodeWords}
-use Rattle.lines.specs.declared.NodeLine.{NodeLine}
-use Rattle.lines.specs.declared.NodeLine.TheVariants as nodes
 use Rattle.lines.specs.declared.FieldNumber.{FieldNumber}
-use Rattle.lines.specs.declared.NumLine.{NumLine}
-use Rattle.lines.specs.declared.NumLine.TheVariants as nums
+use Rattle.page.specs.declared.PageError.TheVariants.{BadLine}
+use Rattle.page.specs.declared.PageError.{PageError}
 
 -- the tables so far, and how many nodes are written in them
 pub record Tables : Type 0 where
@@ -35,13 +33,13 @@ node_step n t w =
 unfoldable pub num_step : ℕ → Tables → FieldNumber → Step
 num_step n t x = cond (ltb 0 t.count) (Go (tables t.count t.words (set t.numbers (number_place n (t.count - 1) x.field) x.value))) Stop
 
-unfoldable pub num_in : ℕ → Tables → NumLine → Step
-num_in n t nums.Bad = Stop
-num_in n t (nums.Is x) = num_step n t x
+unfoldable pub num_in : ℕ → Tables → Option FieldNumber → Step
+num_in n t None = Stop
+num_in n t (Some x) = num_step n t x
 
-unfoldable pub node_in : ℕ → Tables → List ℕ → NodeLine → Step
-node_in n t l nodes.Bad = num_in n t (num_line l)
-node_in n t l (nodes.Is w) = node_step n t w
+unfoldable pub node_in : ℕ → Tables → List ℕ → Option NodeWords → Step
+node_in n t l None = num_in n t (num_line l)
+node_in n t l (Some w) = node_step n t w
 
 -- a line is a node's or a number's, else it is bad
 unfoldable pub body_line : ℕ → Tables → List ℕ → Step
@@ -68,6 +66,13 @@ pub record TablesFit (n count : ℕ) (ws : List ℕ) (xs : List Float) : Type 0 
 abbrev pub Stepped : ℕ → Step → Tables → ℕ → List ℕ → List Float → Type 0
 Stepped n Stop t r ws xs = (n < r) × (ws ≡ t.words) × (xs ≡ t.numbers)
 Stepped n (Go u) t r ws xs = (r ≤ n) × (u ≡ tables r ws xs) × (length ws ≡ length t.words) × (length xs ≡ length t.numbers)
+
+-- the same of a count that is there if the line is good
+abbrev pub Turned : ℕ → Step → Tables → Option ℕ → List ℕ → List Float → Type 0
+Turned n z t r ws xs = MatchOption r (Stepped n z t (n + 1) ws xs) (λ k. (k ≤ n) × Stepped n z t k ws xs)
+
+abbrev pub line_number : PageError → ℕ
+line_number (BadLine k) = k
 
 -- what all lines leave: 0, or the number of the first bad one
 abbrev pub Ended : Body → List ℕ → List Float → ℕ → List ℕ → List Float → Type 0

@@ -1,12 +1,12 @@
 -- From the bytes of a page file to the bytes of its answer.
-use Rattle.std.specs.Prelude.{◌≡◌, List, ℕ, ◌*◌, ◌≤◌, length, take, replicate, Float}
+use Rattle.page.specs.declared.PageError.TheVariants.{BadLine}
+use Rattle.page.specs.declared.PageError.{PageError}
+use Rattle.std.specs.Prelude.{◌≡◌, List, ℕ, ◌*◌, ◌≤◌, length, take, replicate, Float, Err, Ok, Result}
 use Rattle.geometry.specs.Geometry.{zero_f}
 use Rattle.steps.specs.Question.{root_input}
 use Rattle.steps.specs.Results.{Reply, layout_result}
-use Rattle.page.specs.File.{Read, page_file}
+use Rattle.page.specs.File.{page_file}
 use Rattle.page.specs.declared.Head.{Head}
-use Rattle.page.specs.declared.PageFile.{PageFile}
-use Rattle.page.specs.declared.PageFile.TheVariants.{BadLine, Page}
 use Rattle.print.specs.Pen.{pen, put_all}
 use Rattle.print.specs.Text.{page_text, bad_text}
 
@@ -19,9 +19,9 @@ unfoldable pub laid_page_text : Head → List ℕ → List Float → List ℕ
 laid_page_text h ws xs =
     reply_text h.count (layout_result (take (4 * h.count) ws) (take (28 * h.count) xs) (replicate (16 * h.count) zero_f) (replicate (2 * h.count) 0) (replicate (2 * h.count) 0) (replicate (3 * h.count) zero_f) (root_input h.question))
 
-unfoldable pub file_text : PageFile → List ℕ → List Float → List ℕ
-file_text (BadLine k) ws xs = bad_text k
-file_text (Page h) ws xs = laid_page_text h ws xs
+unfoldable pub file_text : Result Head PageError → List ℕ → List Float → List ℕ
+file_text (Err (BadLine k)) ws xs = bad_text k
+file_text (Ok h) ws xs = laid_page_text h ws xs
 
 -- every byte string: a bad line, a refusal, or boxes and candidates. Tables for 512 nodes.
 unfoldable pub output_text : List ℕ → List ℕ

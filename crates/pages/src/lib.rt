@@ -3,11 +3,13 @@
 
 ghost use Rattle.std.specs.Prelude.{◌≡◌, ◌*◌, ◌≤◌, ◌<◌, length};
 ghost use Rattle.print.specs.Pen.{pen, put_all};
+ghost use Rattle.print.specs.Text.{bad_text};
+ghost use Rattle.page.specs.Body.{line_number};
 ghost use Rattle.steps.specs.Question.{root_input};
 ghost use Rattle.steps.specs.Results.{layout_result};
 ghost use Rattle.pages.specs.Output.{reply_text, laid_page_text, file_text, output_text, Lent, Fits, Shown};
 
-use page::{Head, PageFile};
+use page::{Head, PageError};
 use steps::Question;
 
 // A layout of tables that are cut to size, and its text.
@@ -80,15 +82,23 @@ fn lay(h: Head, words: &[u32], numbers: &[f32], out: &mut [u8]) -> usize
     )
 }
 
+// What a file that is no page prints.
+pub fn print_error(out: &mut [u8], bad: PageError) -> usize
+    ensures { pen out.new result ≡ put_all (bad_text (line_number bad)) (pen out.old 0) }
+{
+    match bad {
+        PageError::BadLine(line) => print::print_bad(out, line),
+    }
+}
+
 // Writes what a page file gives to the front of `out`, and says how many bytes it is.
 pub fn page_output(text: &[u8], out: &mut [u8]) -> usize
     ensures { Shown (output_text text.now) out.old out.new result }
 {
     let mut words = [0u32; 2048];
     let mut numbers = [0.0f32; 14336];
-    let file = page::read_page(text, &mut words, &mut numbers);
-    match file {
-        PageFile::BadLine(k) => print::print_bad(out, k),
-        PageFile::Page(h) => lay(h, &words, &numbers, out),
+    match page::read_page(text, &mut words, &mut numbers) {
+        Err(bad) => print_error(out, bad),
+        Ok(h) => lay(h, &words, &numbers, out),
     }
 }

@@ -1,9 +1,9 @@
 -- In any interleaving each panel answers and stands as the replay of its own events and of all edits of the table alone.
-use Rattle.std.specs.Prelude.{◌≡◌, Bool, cond, List, ◌∷◌, ℕ, Float}
+use Rattle.steps.specs.declared.Refusal.{Refusal}
+use Rattle.std.specs.Prelude.{◌≡◌, Bool, cond, List, ◌∷◌, ℕ, Float, Result}
 use Rattle.std.proofs.Math.Path.{refl, ap}
 use Rattle.std.proofs.Common.{sym, true≢false}
 use Rattle.std.proofs.Math.Bool.{true, false}
-use Rattle.steps.specs.declared.Answer.{Answer}
 use Rattle.sheet.specs.Sheet.{Sheet, sheet, has_number, has_word, edit_of, number_edit, word_edit}
 use Rattle.day.specs.Day.{Day, edit_event, call_event, event_result, day_after, answers_of}
 use Rattle.sheet.specs.declared.NodeNumber.{NodeNumber}
@@ -56,7 +56,7 @@ unfolding day_after
 after_by true e es d d' h = ap (day_after es) h
 after_by false e es d d' h = ap (day_after es) h
 
-pub answers_by : (b : Bool) (e : Event) (es : List Event) (d d' : Day) (a : Answer) → d' ≡ cond b (event_result e d).after d → (b ≡ true → a ≡ (event_result e d).answer) → cond b (a ∷ answers_of es d') (answers_of es d') ≡ answers_of (cond b (e ∷ es) es) d
+pub answers_by : (b : Bool) (e : Event) (es : List Event) (d d' : Day) (a : Result ℕ Refusal) → d' ≡ cond b (event_result e d).after d → (b ≡ true → a ≡ (event_result e d).answer) → cond b (a ∷ answers_of es d') (answers_of es d') ≡ answers_of (cond b (e ∷ es) es) d
 unfolding answers_of
 answers_by true e es d d' a h g = rw (h, g refl)
 answers_by false e es d d' a h g = rw h

@@ -1,7 +1,7 @@
 -- Two panels over one node table: what one event of one of them answers and leaves, and events one after the other.
-use Rattle.std.specs.Prelude.{◌≡◌, Bool, true, false, cond, ◌||◌, List, [], ◌∷◌, ℕ, Float}
+use Rattle.steps.specs.declared.Refusal.{Refusal}
+use Rattle.std.specs.Prelude.{◌≡◌, Bool, true, false, cond, ◌||◌, List, [], ◌∷◌, ℕ, Float, Result}
 use Rattle.steps.specs.Noes.{paper}
-use Rattle.steps.specs.declared.Answer.{Answer}
 use Rattle.steps.specs.declared.Question.{Question}
 use Rattle.sheet.specs.Sheet.{Sheet, sheet, number_edit, word_edit}
 use Rattle.day.specs.Day.{Day, Outcome, day, event_result}
@@ -142,6 +142,6 @@ own w [] = []
 own w (t ∷ ts) = cond (heard w t) (t.event ∷ own w ts) (own w ts)
 
 -- the answers of these events
-unfoldable pub answers_to : Which → List PanelEvent → Panels → List Answer
+unfoldable pub answers_to : Which → List PanelEvent → Panels → List (Result ℕ Refusal)
 answers_to w [] s = []
 answers_to w (t ∷ ts) s = cond (heard w t) ((both_of t s).own.answer ∷ answers_to w ts (panels_next t s)) (answers_to w ts (panels_next t s))

@@ -8,12 +8,12 @@ ghost use Rattle.panels.specs.Panels.{listed, seen, panel_result, PanelReplied};
 
 use day::{Event, State};
 use sheet::{NodeNumber, NodeWord};
-use steps::Answer;
+use steps::Refusal;
 
 // What an event answers, the state of its panel after it, and how many edits the other's list holds.
 #[derive(Clone, Copy)]
 pub struct PanelTurn {
-    pub answer: Answer,
+    pub answer: Result<u32, Refusal>,
     pub state: State,
     pub other: usize,
 }

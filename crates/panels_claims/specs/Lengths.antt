@@ -1,5 +1,8 @@
 -- No event changes how long rows and marks are, nor how many nodes there are.
-use Rattle.std.specs.Prelude.{◌≡◌, refl, Bool, true, false, ◌||◌, List, [], ℕ, ◌+◌, ◌*◌, ◌/◌, length, Float}
+use Rattle.steps.specs.declared.Refusal.TheVariants.{Lengths}
+use Rattle.steps.specs.declared.Refusal.{Refusal}
+use Rattle.tree.specs.declared.NodeId.{NodeId}
+use Rattle.std.specs.Prelude.{◌≡◌, refl, Bool, true, false, ◌||◌, List, [], ℕ, ◌+◌, ◌*◌, ◌/◌, length, Float, Option, None, Some, Result, Ok, Err, ⊤}
 use Rattle.std.proofs.Math.Path.{sym, ap}
 use Rattle.std.proofs.Common.{◌∙◌, length-set}
 use Rattle.std.proofs.Math.ListN.{length-replicate}
@@ -15,11 +18,6 @@ use Rattle.steps.specs.Noes.{refuse_if, and_then, bad_tables, bad_rows, bad_row,
 use Rattle.steps.specs.Question.{root_input}
 use Rattle.steps.specs.Results.{rows_out, marks_out, accepted, over_limit, replied, tested, layout_result, relayout_result}
 use Rattle.steps.specs.declared.LayoutInput.{LayoutInput}
-use Rattle.steps.specs.declared.Answer.TheVariants.{Lengths}
-use Rattle.steps.specs.declared.Tested.{Tested}
-use Rattle.steps.specs.declared.Tested.TheVariants.{Pass, Refuse}
-use Rattle.steps.specs.declared.Found.{Found}
-use Rattle.steps.specs.declared.Found.TheVariants.{Nowhere, At}
 use Rattle.steps.proofs.Shape.{mute}
 use Rattle.tables.proofs.Passing.{then_pass_1, then_pass_2, if_pass, good_table}
 use Rattle.tables.proofs.GoodPage.{good_page, good-cells}
@@ -45,29 +43,29 @@ unfolding rows_out marks_out
 out_long t n e = (length-flatT (λ _ (r : Row). row_numbers r) 16 (λ _ _. refl) t ∙ ap (λ (k : ℕ). 16 * k) e, length-flatT (λ _ (r : Row). row_words r) 2 (λ _ _. refl) t ∙ ap (λ (k : ℕ). 2 * k) e)
 
 module _ (n : ℕ) (t : Tree Row) (rs : List Float) (ms cw : List ℕ) (cx : List Float) (l : Long n rs ms) where
-  over-long : (f : Found) → count_t t ≡ n → let r = over_limit f t rs ms cw cx in Long n r.rows r.marks
+  over-long : (f : Option NodeId) → count_t t ≡ n → let r = over_limit f t rs ms cw cx in Long n r.rows r.marks
   unfolding over_limit accepted
-  over-long Nowhere e = out_long t n e
-  over-long (At i) e = (length-replicate (length rs) zero_f ∙ l.0, length-replicate (length ms) 0 ∙ l.1)
+  over-long None e = out_long t n e
+  over-long (Some i) e = (length-replicate (length rs) zero_f ∙ l.0, length-replicate (length ms) 0 ∙ l.1)
 
-  reply-long : (x : Tested) → (x ≡ Pass → count_t t ≡ n) → let r = tested x (replied n t rs ms cw cx) rs ms cw cx in Long n r.rows r.marks
+  reply-long : (x : Result ⊤ Refusal) → (x ≡ Ok tt → count_t t ≡ n) → let r = tested x (replied n t rs ms cw cx) rs ms cw cx in Long n r.rows r.marks
   unfolding tested replied
-  reply-long Pass h = over-long (lowest (bad_row (rows_out t)) n) (h refl)
-  reply-long (Refuse a) h = l
+  reply-long (Ok _) h = over-long (lowest (bad_row (rows_out t)) n) (h refl)
+  reply-long (Err a) h = l
 
 module _ (ws : List ℕ) (xs rs : List Float) (ms cw : List ℕ) (cx : List Float) (q : LayoutInput) where
-  lent-good : layout_tested ws xs rs ms cw cx q ≡ Pass → (bad_tables ws xs ≡ false) × (page_tested ws xs q ≡ Pass)
+  lent-good : layout_tested ws xs rs ms cw cx q ≡ Ok tt → (bad_tables ws xs ≡ false) × (page_tested ws xs q ≡ Ok tt)
   unfolding layout_tested
   lent-good e =
       let lengths = refuse_if (bad_tables ws xs || bad_rows ws rs ms) Lengths in
       (or_left (bad_tables ws xs) (bad_rows ws rs ms) (if_pass (bad_tables ws xs || bad_rows ws rs ms) Lengths (then_pass_1 lengths _ e)), then_pass_1 (page_tested ws xs q) (no5 ws xs cw cx) (then_pass_2 lengths _ e))
 
-  fresh_count : layout_tested ws xs rs ms cw cx q ≡ Pass → count_t (fresh (page_of ws xs []) q).rows ≡ nodes_in ws
+  fresh_count : layout_tested ws xs rs ms cw cx q ≡ Ok tt → count_t (fresh (page_of ws xs []) q).rows ≡ nodes_in ws
   fresh_count e =
       let g = lent-good e in
       sym (count_map_t mute (fresh (page_of ws xs []) q).rows) ∙ ap count_t (fresh_shape (page_of ws xs []) q) ∙ count_map_t mute (page_of ws xs []) ∙ (good_page ws (good_table ws xs q g.0 g.1) xs []).count
 
-  relaid_count : (es : List ℕ) → relayout_tested ws xs rs ms cw cx es q ≡ Pass → count_t (relaid (cells_of ws xs rs ms es) q).rows ≡ nodes_in ws
+  relaid_count : (es : List ℕ) → relayout_tested ws xs rs ms cw cx es q ≡ Ok tt → count_t (relaid (cells_of ws xs rs ms es) q).rows ≡ nodes_in ws
   unfolding relayout_tested
   relaid_count es e =
       let g = lent-good (then_pass_1 (layout_tested ws xs rs ms cw cx q) (and_then (no6 es (nodes_in ws)) (no7 ms)) e) in

@@ -1,5 +1,7 @@
 -- A table that fails 1 to 4 is refused to both panels, with one number and place, until it is mended. 4 at place n is a panel's own.
-use Rattle.std.specs.Prelude.{◌≡◌, refl, Bool, true, false, ◌||◌, List, [], ◌∷◌, ℕ, ◌*◌, length, Float}
+use Rattle.steps.specs.declared.Refusal.TheVariants.{Lengths, Numbers}
+use Rattle.steps.specs.declared.Refusal.{Refusal}
+use Rattle.std.specs.Prelude.{◌≡◌, refl, Bool, true, false, ◌||◌, List, [], ◌∷◌, ℕ, ◌*◌, length, Float, Result, Ok, Err, ⊤}
 use Rattle.std.proofs.Common.{◌∙◌, true≢false, eq-eqb}
 use Rattle.limits.specs.Bools.{or_left, or_right}
 use Rattle.steps.specs.Scan.{lowest}
@@ -7,10 +9,6 @@ use Rattle.steps.specs.Page.{nodes_in}
 use Rattle.steps.specs.Noes.{refuse_if, and_then, at_fault, bad_tables, bad_rows, bad_numbers, bad_question, no2, no3, no4, no5, page_tested, layout_tested}
 use Rattle.steps.specs.Results.{Reply}
 use Rattle.steps.specs.declared.LayoutInput.{LayoutInput}
-use Rattle.steps.specs.declared.Answer.{Answer}
-use Rattle.steps.specs.declared.Answer.TheVariants.{Lengths, Numbers}
-use Rattle.steps.specs.declared.Tested.{Tested}
-use Rattle.steps.specs.declared.Tested.TheVariants.{Pass, Refuse}
 use Rattle.day.specs.Day.{Day, edit_event, call_event, event_result}
 use Rattle.day.specs.declared.Event.{Event}
 use Rattle.day.specs.declared.Event.TheVariants as event
@@ -18,16 +16,16 @@ use Rattle.panels.specs.Panels.{Which, hall, kitchen, Panels, view, together, Pa
 use Rattle.panels.specs.Alone.{table}
 
 -- 1 to 4 by the node table alone
-unfoldable pub table_tested : List ℕ → List Float → Tested
+unfoldable pub table_tested : List ℕ → List Float → Result ⊤ Refusal
 table_tested ws xs = and_then (refuse_if (bad_tables ws xs) Lengths) (and_then (no2 ws) (and_then (no3 ws xs) (at_fault Numbers (lowest (bad_numbers ws xs) (nodes_in ws)))))
 
-regroup : (x y z u v w : Tested) → and_then x (and_then (and_then y (and_then z (and_then u v))) w) ≡ and_then (and_then x (and_then y (and_then z u))) (and_then v w)
+regroup : (x y z u v w : Result ⊤ Refusal) → and_then x (and_then (and_then y (and_then z (and_then u v))) w) ≡ and_then (and_then x (and_then y (and_then z u))) (and_then v w)
 unfolding and_then
-regroup (Refuse a) y z u v w = refl
-regroup Pass (Refuse a) z u v w = refl
-regroup Pass Pass (Refuse a) u v w = refl
-regroup Pass Pass Pass (Refuse a) v w = refl
-regroup Pass Pass Pass Pass v w = refl
+regroup (Err a) y z u v w = refl
+regroup (Ok _) (Err a) z u v w = refl
+regroup (Ok _) (Ok _) (Err a) u v w = refl
+regroup (Ok _) (Ok _) (Ok _) (Err a) v w = refl
+regroup (Ok _) (Ok _) (Ok _) (Ok _) v w = refl
 
 or_false : (b c : Bool) → c ≡ false → b || c ≡ b
 or_false true c e = refl
@@ -46,14 +44,14 @@ tests_in_order ws xs rs ms cw cx q lr lm =
     (regroup (refuse_if (bad_tables ws xs) Lengths) (no2 ws) (no3 ws xs) (at_fault Numbers (lowest (bad_numbers ws xs) (nodes_in ws))) (refuse_if (bad_question q) (Numbers (nodes_in ws))) (no5 ws xs cw cx))
 
 -- a call that these tests refuse: the answer is theirs, and all stays as lent
-abbrev pub AsLent : Answer → Day → Reply
-AsLent a d = record { answer = a; rows = d.rows; marks = d.marks; words = d.pairs; numbers = d.triples }
+abbrev pub AsLent : Refusal → Day → Reply
+AsLent a d = record { answer = Err a; rows = d.rows; marks = d.marks; words = d.pairs; numbers = d.triples }
 
-pub table_first : (a : Answer) (x y : Tested) → x ≡ Refuse a → and_then x y ≡ Refuse a
+pub table_first : (a : Refusal) (x y : Result ⊤ Refusal) → x ≡ Err a → and_then x y ≡ Err a
 unfolding and_then
 table_first a x y e = rw e
 
-pub question_first : (a : Answer) (x : Tested) (b : Bool) → x ≡ Pass → b ≡ true → and_then x (refuse_if b a) ≡ Refuse a
+pub question_first : (a : Refusal) (x : Result ⊤ Refusal) (b : Bool) → x ≡ Ok tt → b ≡ true → and_then x (refuse_if b a) ≡ Err a
 unfolding and_then
 question_first a x b e h = rw (e, h)
 
@@ -68,7 +66,7 @@ is_call event.Relayout = true
 is_call event.Layout = true
 
 -- the answer of one more event
-abbrev pub answer_of : Which → Event → Panels → Answer
+abbrev pub answer_of : Which → Event → Panels → Result ℕ Refusal
 answer_of w e s = (both_of (of w e) s).own.answer
 
 -- ---- until it is mended

@@ -1,11 +1,8 @@
 -- The final pass: with fractions of heights read as auto, what goes across a row is the same at every node.
-use Rattle.std.specs.Prelude.{◌≡◌, refl, Bool, true, false, Float}
+use Rattle.std.specs.Prelude.{◌≡◌, refl, Bool, true, false, Float, Option, None, Some, unwrap_or}
 use Rattle.std.proofs.Common.{sym, ap, ◌∙◌}
 use Rattle.geometry.specs.Geometry.{zero_f, across}
 use Rattle.util.specs.Math.{larger}
-use Rattle.util.specs.Maybe.{unwrap_or}
-use Rattle.util.specs.declared.OptionF32.{OptionF32}
-use Rattle.util.specs.declared.OptionF32.TheVariants.{None, Some}
 use Rattle.style.specs.Flow.{is_leaf, flow_of}
 use Rattle.style.specs.declared.Flow.{Flow}
 use Rattle.style.specs.declared.Flow.TheVariants.{Gone, Out, In}
@@ -40,7 +37,7 @@ frame_child s q p w found a d e c =
     let y = sizing_of (auto_heights s) p.parent p.basis in
     let h : SameAcross z y = rw (c) (sizing_across s p.parent q.basis p.basis a) in
     let k : (known_of s z q.known).width ≡ (known_of (auto_heights s) y p.known).width = known_asked s z q.known w d ∙ ap (λ b. Some (larger w (across b))) h.both ∙ sym (known_asked (auto_heights s) y p.known w e) in
-    frame_by s q p z y _ _ _ _ h.both (ap (λ (o : OptionF32). unwrap_or o found) k)
+    frame_by s q p z y _ _ _ _ h.both (ap (λ (o : Option Float). unwrap_or o found) k)
 
 item_same : (f g : Frame) (s : Style) → SameFrame f g → RatioAlone s → SameItem (item_of f s) (item_of g (auto_heights s))
 unfolding item_of

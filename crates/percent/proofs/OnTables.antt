@@ -1,12 +1,11 @@
 -- The two theorems of lent tables: what the tables say of each node, and what the tests before any write grant.
-use Rattle.std.specs.Prelude.{◌≡◌, false, List, [], ℕ, ◌<◌, Float}
+use Rattle.std.specs.Prelude.{◌≡◌, false, List, [], ℕ, ◌<◌, Float, Ok}
 use Rattle.tree.specs.Tree.{map_t}
 use Rattle.steps.specs.Page.{site_at, nodes_in, page_of}
 use Rattle.steps.specs.Question.{root_input}
 use Rattle.steps.specs.Noes.{bad_tables, bad_style, page_tested}
 use Rattle.steps.specs.Layout.{fresh}
 use Rattle.steps.specs.declared.Question.{Question}
-use Rattle.steps.specs.declared.Tested.TheVariants.{Pass}
 use Rattle.tables.proofs.Passing.{sized, page_passes}
 use Rattle.tables.proofs.ScanLaws.{lowest-nowhere}
 use Rattle.laws.specs.Trees.{AllT}
@@ -33,7 +32,7 @@ unfolding page_of
 alone_page ws xs es p h = all_parse AloneAt (site_at ws xs es 0) (nodes_in ws) p (λ i l. rw (site_style ws xs es i) (alone_at ws xs i (h i l)))
 
 -- Tables that pass the tests: with the fractions of fields 1, 3 and 5 auto, a fresh layout leaves the same numbers 0, 2, 8 and 10 to 13 in every row.
-pub no_width_moves_on_tables : (ws : List ℕ) (xs : List Float) (q : Question) → bad_tables ws xs ≡ false → page_tested ws xs (root_input q) ≡ Pass
+pub no_width_moves_on_tables : (ws : List ℕ) (xs : List Float) (q : Question) → bad_tables ws xs ≡ false → page_tested ws xs (root_input q) ≡ Ok tt
     → map_t across_of (fresh (page_of ws xs []) (root_input q)).rows ≡ map_t across_of (fresh (map_t auto_site (page_of ws xs [])) (root_input q)).rows
 no_width_moves_on_tables ws xs q b e =
     let p = page_passes ws xs (root_input q) e in

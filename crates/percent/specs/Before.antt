@@ -1,11 +1,9 @@
 -- A page without a fraction of a height has the rows that it had before percent heights, but for number 14 and bit 8.
-use Rattle.std.specs.Prelude.{◌≡◌, refl, Bool, true, false, ℕ, ◌+◌, ◌*◌, ◌/◌, ◌%◌, ◌<◌, eqb, Float}
+use Rattle.std.specs.Prelude.{◌≡◌, refl, Bool, true, false, ℕ, ◌+◌, ◌*◌, ◌/◌, ◌%◌, ◌<◌, eqb, Float, Option, None, Some, is_some}
 use Rattle.std.proofs.Common.{sym, ap, ◌∙◌, arith}
 use Rattle.geometry.specs.Geometry.{zero_f}
 use Rattle.geometry.specs.declared.Point.{Point}
-use Rattle.util.specs.Maybe.{or_zero, is_some}
-use Rattle.util.specs.declared.OptionF32.{OptionF32}
-use Rattle.util.specs.declared.OptionF32.TheVariants.{None, Some}
+use Rattle.util.specs.Maybe.{or_zero}
 use Rattle.style.specs.Codes.{flag_at}
 use Rattle.style.specs.Flow.{is_leaf, flow_of}
 use Rattle.style.specs.declared.Flow.{Flow}
@@ -202,11 +200,11 @@ low_bits t g c h =
     omega arith
 
 pub row_same : (q : LayoutInput) (o : LayoutOutput) (p : ProbeWords) → p.code < 16 → forgot (laid_row q o p) ≡ forgot (laid_row (unbased q) o p)
-unfolding laid_row or_zero is_some
+unfolding laid_row
 row_same q o p h =
     rw (no_bit (1 + 2 * bit o.through + 8 * bit (is_some q.known.height) + 16 * p.code) (bit (is_some q.basis)) (bit (is_some o.baseline)) (low_bits o.through (is_some q.known.height) p.code h) (bit_small (is_some q.basis)))
 
-put_forgot : (p : Point) (n : ℕ) (t : Tree Row) → map_t forgot (on_root (put_at p n) t) ≡ on_root (put_at p n) (map_t forgot t)
+put_forgot : (p : Point Float) (n : ℕ) (t : Tree Row) → map_t forgot (on_root (put_at p n) t) ≡ on_root (put_at p n) (map_t forgot t)
 unfolding map_t on_root put_at
 put_forgot p n (node r ks) = refl
 
@@ -235,15 +233,15 @@ unfolding lower_f map_f
 lower_f_lem d none = refl
 lower_f_lem d (more t ts) = rw (lower_t d t, lower_f_lem d ts)
 
-align_forgot : (d : OptionF32) (ts : Forest Row) → map_f forgot (align_f d ts) ≡ align_f d (map_f forgot ts)
+align_forgot : (d : Option Float) (ts : Forest Row) → map_f forgot (align_f d ts) ≡ align_f d (map_f forgot ts)
 unfolding align_f
 align_forgot None ts = refl
 align_forgot (Some d) ts = lower_f_lem d ts
 
-pub align_same : (d : OptionF32) (ts us : Forest Row) → map_f forgot ts ≡ map_f forgot us → map_f forgot (align_f d ts) ≡ map_f forgot (align_f d us)
+pub align_same : (d : Option Float) (ts us : Forest Row) → map_f forgot ts ≡ map_f forgot us → map_f forgot (align_f d ts) ≡ map_f forgot (align_f d us)
 align_same d ts us e = align_forgot d ts ∙ ap (align_f d) e ∙ sym (align_forgot d us)
 
-put_same : (p : Point) (n : ℕ) (t u : Tree Row) → map_t forgot t ≡ map_t forgot u → map_t forgot (on_root (put_at p n) t) ≡ map_t forgot (on_root (put_at p n) u)
+put_same : (p : Point Float) (n : ℕ) (t u : Tree Row) → map_t forgot t ≡ map_t forgot u → map_t forgot (on_root (put_at p n) t) ≡ map_t forgot (on_root (put_at p n) u)
 put_same p n t u e = put_forgot p n t ∙ ap (on_root (put_at p n)) e ∙ sym (put_forgot p n u)
 
 -- a node of a fresh page without such fractions

@@ -1,14 +1,14 @@
 -- The final pass: with fractions of heights read as auto, what goes across a row is the same at every node.
-use Rattle.std.specs.Prelude.{◌≡◌, refl, Bool, false, ℕ, Float}
+use Rattle.std.specs.Option.{option_or}
+use Rattle.length.specs.declared.Length.{Length}
+use Rattle.geometry.specs.declared.Size.{Size}
+use Rattle.geometry.specs.declared.Rect.{Rect}
+use Rattle.std.specs.Prelude.{◌≡◌, refl, Bool, false, ℕ, Float, Option, None, Some, unwrap_or}
 use Rattle.std.proofs.Common.{sym, ap, ◌∙◌}
 use Rattle.geometry.specs.Geometry.{zero_f, across}
 use Rattle.geometry.specs.declared.Point.{Point}
 use Rattle.util.specs.Math.{larger}
-use Rattle.util.specs.Maybe.{unwrap_or, or_else, floor_opt}
-use Rattle.util.specs.declared.OptionF32.{OptionF32}
-use Rattle.util.specs.declared.OptionF32.TheVariants.{None, Some}
-use Rattle.util.specs.declared.OptionSize.{OptionSize}
-use Rattle.length.specs.declared.LengthRect.{LengthRect}
+use Rattle.util.specs.Maybe.{floor_opt}
 use Rattle.style.specs.declared.Position.{Position}
 use Rattle.style.specs.declared.Position.TheVariants.{Static, Relative, Absolute}
 use Rattle.style.specs.declared.Style.{Style}
@@ -44,7 +44,7 @@ pub record SameFrame (f g : Frame) : Type 0 where
   pub inset : f.inset ≡ g.inset
   pub rtl : f.rtl ≡ g.rtl
 
-pub frame_by : (s : Style) (q p : LayoutInput) (z y : Sizing) (k j : OptionSize) (v w : Float) → z.both ≡ y.both → v ≡ w
+pub frame_by : (s : Style) (q p : LayoutInput) (z y : Sizing) (k j : Size (Option Float)) (v w : Float) → z.both ≡ y.both → v ≡ w
     → SameFrame (step_i s q z k v) (step_i (auto_heights s) p y j w)
 unfolding step_i insets gutter
 frame_by s q p z y k j v w a d = record {
@@ -54,8 +54,8 @@ frame_by s q p z y k j v w a d = record {
 }
 
 -- below the root a width is asked, and B and D leave it
-pub known_asked : (s : Style) (z : Sizing) (k : OptionSize) (w : Float) → k.width ≡ Some w → (known_of s z k).width ≡ Some (larger w (across z.both))
-unfolding known_of step_d filled step_b known_axis or_else floor_opt
+pub known_asked : (s : Style) (z : Sizing) (k : Size (Option Float)) (w : Float) → k.width ≡ Some w → (known_of s z k).width ≡ Some (larger w (across z.both))
+unfolding known_of step_d filled step_b known_axis floor_opt
 known_asked s z k w e = rw e
 
 -- at the root no height has a basis
@@ -69,7 +69,7 @@ frame_root s q found e =
     let z = no_basis_lem s q e in
     let y = no_basis_lem (auto_heights s) q e in
     let k = sym (known_auto s q.parent q.known) in
-    rw (z, y) (frame_by s q q (step_a s q.parent) (step_a (auto_heights s) q.parent) _ _ _ _ (ap (λ (x : Sizing). x.both) (sym (auto_a s q.parent))) (ap (λ (o : OptionSize). unwrap_or o.width found) k))
+    rw (z, y) (frame_by s q q (step_a s q.parent) (step_a (auto_heights s) q.parent) _ _ _ _ (ap (λ (x : Sizing). x.both) (sym (auto_a s q.parent))) (ap (λ (o : Size (Option Float)). unwrap_or o.width found) k))
 
 -- ---- what is asked of a child, and where it stands
 pub inner_same : (f g : Frame) → SameFrame f g → inner_width f ≡ inner_width g
@@ -83,7 +83,7 @@ pub record SameItem (i j : BlockItem) : Type 0 where
   pub right : i.right ≡ j.right
   pub offset : i.offset.x ≡ j.offset.x
 
-pub offset_same : (p : Position) (i : LengthRect) (r : Bool) (b h k : OptionF32) → (offset_by p i r b h).x ≡ (offset_by p i r b k).x
+pub offset_same : (p : Position) (i : Rect Length) (r : Bool) (b h k : Option Float) → (offset_by p i r b h).x ≡ (offset_by p i r b k).x
 unfolding offset_by relative_offset
 offset_same Static i r b h k = refl
 offset_same Relative i r b h k = refl
@@ -110,7 +110,7 @@ parent_asked f s = refl
 abbrev set_x : Float → Across → Across
 set_x x a = record { x = x; width = a.width; known = a.known; parent = a.parent; probe = a.probe }
 
-put_across : (p : Point) (n : ℕ) (t : Tree Row) → map_t across_of (on_root (put_at p n) t) ≡ on_root (set_x p.x) (map_t across_of t)
+put_across : (p : Point Float) (n : ℕ) (t : Tree Row) → map_t across_of (on_root (put_at p n) t) ≡ on_root (set_x p.x) (map_t across_of t)
 unfolding map_t on_root put_at
 put_across p n (node r ks) = refl
 
@@ -123,12 +123,12 @@ unfolding lower_f map_f
 lower_f_lem d none = refl
 lower_f_lem d (more t ts) = rw (lower_t d t, lower_f_lem d ts)
 
-pub align_across : (d : OptionF32) (ts : Forest Row) → map_f across_of (align_f d ts) ≡ map_f across_of ts
+pub align_across : (d : Option Float) (ts : Forest Row) → map_f across_of (align_f d ts) ≡ map_f across_of ts
 unfolding align_f
 align_across None ts = refl
 align_across (Some d) ts = lower_f_lem d ts
 
-pub put_same : (p r : Point) (m n : ℕ) (t u : Tree Row) → p.x ≡ r.x → map_t across_of t ≡ map_t across_of u → map_t across_of (on_root (put_at p m) t) ≡ map_t across_of (on_root (put_at r n) u)
+pub put_same : (p r : Point Float) (m n : ℕ) (t u : Tree Row) → p.x ≡ r.x → map_t across_of t ≡ map_t across_of u → map_t across_of (on_root (put_at p m) t) ≡ map_t across_of (on_root (put_at r n) u)
 put_same p r m n t u e h = put_across p m t ∙ ap (λ (x : Float). on_root (set_x x) (map_t across_of t)) e ∙ ap (on_root (set_x r.x)) h ∙ sym (put_across r n u)
 
 -- a hidden row has nothing across, an aside row its start and end

@@ -1,15 +1,13 @@
 -- The two theorems of lent tables: what the tables say of each node, and what the tests before any write grant.
-use Rattle.std.specs.Prelude.{◌≡◌, refl, Bool, true, false, cond, not, ◌&&◌, List, ℕ, zero, suc, eqb, Float}
+use Rattle.std.specs.Prelude.{◌≡◌, refl, Bool, true, false, cond, not, ◌&&◌, List, ℕ, zero, suc, eqb, Float, None, Some, is_some}
 use Rattle.std.proofs.Common.{sym, ap, ◌∙◌, arith}
 use Rattle.std.specs.Float.Ieee.{eq}
 use Rattle.geometry.specs.Geometry.{zero_f}
 use Rattle.limits.specs.Bools.{or_left, or_right}
-use Rattle.util.specs.Maybe.{is_some}
 use Rattle.style.specs.Codes.{length_of, ratio_of}
 use Rattle.style.specs.Style.{number_at, length_at, size_at, rect_at, style_at}
 use Rattle.steps.specs.Page.{site_at}
 use Rattle.steps.specs.Noes.{fraction_at, ratio_beside_fraction, bad_style}
-use Rattle.util.specs.declared.OptionF32.TheVariants.{None, Some}
 use Rattle.tables.proofs.ScanLaws.{never}
 use Rattle.percent.specs.Parts.{is_part, NoParts, NoHeightParts}
 use Rattle.percent.specs.Widths.{RatioAlone}
@@ -47,7 +45,7 @@ plain_at ws xs i h = record { sizes = no_parts ws xs i h.height h.min h.max; top
 
 -- ---- refusal 3 keeps ratios and such fractions apart
 ratio_told : (x : Float) → is_some (ratio_of x) ≡ true → eq x zero_f ≡ false
-unfolding ratio_of is_some
+unfolding ratio_of
 ratio_told x e = go (eq x zero_f) refl
   where
     go : (b : Bool) → eq x zero_f ≡ b → eq x zero_f ≡ false

@@ -1,8 +1,6 @@
 -- The width pass does not read fractions of heights: with these auto, it gives every node the same probe words.
-use Rattle.std.specs.Prelude.{◌≡◌, refl, Float}
-use Rattle.util.specs.declared.OptionF32.{OptionF32}
-use Rattle.util.specs.declared.OptionF32.TheVariants.{None}
-use Rattle.util.specs.declared.OptionSize.{OptionSize}
+use Rattle.geometry.specs.declared.Size.{Size}
+use Rattle.std.specs.Prelude.{◌≡◌, refl, Float, Option, None}
 use Rattle.length.specs.declared.AvailableSpace.{AvailableSpace}
 use Rattle.style.specs.Flow.{flow_of}
 use Rattle.style.specs.declared.Flow.{Flow}
@@ -46,15 +44,15 @@ outer_auto : (s : Style) (a : AvailableSpace) (w : Float) → outer_width (auto_
 unfolding outer_width side_margins
 outer_auto s a w = rw (auto_a s None)
 
-space_auto : (s : Style) (p : OptionF32) (a : AvailableSpace) → space_in (auto_heights s) p a ≡ space_in s p a
+space_auto : (s : Style) (p : Option Float) (a : AvailableSpace) → space_in (auto_heights s) p a ≡ space_in s p a
 unfolding space_in insets gutter
 space_auto s p a = rw (auto_a s p)
 
-found_auto : (s : Style) (p : OptionF32) (m : Float) → found_width (auto_heights s) p m ≡ found_width s p m
+found_auto : (s : Style) (p : Option Float) (m : Float) → found_width (auto_heights s) p m ≡ found_width s p m
 unfolding found_width insets gutter
 found_auto s p m = rw (auto_a s p)
 
-pub known_auto : (s : Style) (p : OptionF32) (k : OptionSize) → known_of (auto_heights s) (step_a (auto_heights s) p) k ≡ known_of s (step_a s p) k
+pub known_auto : (s : Style) (p : Option Float) (k : Size (Option Float)) → known_of (auto_heights s) (step_a (auto_heights s) p) k ≡ known_of s (step_a s p) k
 unfolding known_of step_d
 known_auto s p k = rw (auto_a s p)
 

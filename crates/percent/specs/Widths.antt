@@ -1,16 +1,13 @@
 -- No width depends on a fraction of a height: with the fractions of fields 1, 3 and 5 read as auto, numbers 0, 2, 8 and 10 to 13 of every row are the same.
-use Rattle.std.specs.Prelude.{◌≡◌, refl, Bool, true, false, cond, Float}
+use Rattle.geometry.specs.declared.Size.{Size}
+use Rattle.std.specs.Prelude.{◌≡◌, refl, Bool, true, false, cond, Float, Option, None, Some, is_some}
 use Rattle.std.proofs.Common.{sym, ap, ◌∙◌}
 use Rattle.geometry.specs.Geometry.{sum_axes, plus}
 use Rattle.geometry.specs.declared.Rect.{Rect}
-use Rattle.util.specs.Maybe.{is_some, add_size, ratio_fills}
-use Rattle.util.specs.declared.OptionF32.{OptionF32}
-use Rattle.util.specs.declared.OptionF32.TheVariants.{None, Some}
-use Rattle.util.specs.declared.OptionSize.{OptionSize}
+use Rattle.util.specs.Maybe.{add_size, ratio_fills}
 use Rattle.length.specs.Length.{resolved, scaled, resolved_rect, resolved_size}
 use Rattle.length.specs.declared.Length.{Length}
 use Rattle.length.specs.declared.Length.TheVariants.{Auto, Pixels, Fraction}
-use Rattle.length.specs.declared.LengthSize.{LengthSize}
 use Rattle.style.specs.declared.Style.{Style}
 use Rattle.steps.specs.Row.{Row, RowProbe}
 use Rattle.steps.specs.Sizing.{box_size, sized_by, sizing_of, step_a}
@@ -23,7 +20,7 @@ auto_part Auto = Auto
 auto_part (Pixels x) = Pixels x
 auto_part (Fraction f) = Auto
 
-abbrev pub auto_height : LengthSize → LengthSize
+abbrev pub auto_height : Size Length → Size Length
 auto_height l = record { width = l.width; height = auto_part l.height }
 
 -- a style whose fractions in fields 1, 3 and 5 are auto
@@ -78,22 +75,22 @@ auto_whole (Pixels x) e = refl
 auto_whole (Fraction f) e = cc
 
 -- without a basis there is no difference
-box_none : (s : Style) (l : LengthSize) (b : OptionF32) (both : Rect) → box_size (auto_heights s) (auto_height l) b None both ≡ box_size s l b None both
+box_none : (s : Style) (l : Size Length) (b : Option Float) (both : Rect Float) → box_size (auto_heights s) (auto_height l) b None both ≡ box_size s l b None both
 unfolding box_size resolved_size
 box_none s l b both = rw (auto_none l.height)
 
-pub auto_a : (s : Style) (b : OptionF32) → step_a (auto_heights s) b ≡ step_a s b
+pub auto_a : (s : Style) (b : Option Float) → step_a (auto_heights s) b ≡ step_a s b
 unfolding step_a sizing_of sized_by
 auto_a s b =
     let both = plus (resolved_rect s.padding b) (resolved_rect s.border b) in
     rw (box_none s s.size b both, box_none s s.min b both, box_none s s.max b both)
 
 -- with any two bases the widths are the same
-filled_width : (w h k : OptionF32) (r : OptionF32) → r ≡ None → (ratio_fills (record { width = w; height = h }) r).width ≡ (ratio_fills (record { width = w; height = k }) r).width
+filled_width : (w h k : Option Float) (r : Option Float) → r ≡ None → (ratio_fills (record { width = w; height = h }) r).width ≡ (ratio_fills (record { width = w; height = k }) r).width
 unfolding ratio_fills
 filled_width w h k r e = rw e
 
-add_width : (s : Style) (a b : OptionSize) (both : Rect) → a.width ≡ b.width → (cond s.content (add_size a (sum_axes both)) a).width ≡ (cond s.content (add_size b (sum_axes both)) b).width
+add_width : (s : Style) (a b : Size (Option Float)) (both : Rect Float) → a.width ≡ b.width → (cond s.content (add_size a (sum_axes both)) a).width ≡ (cond s.content (add_size b (sum_axes both)) b).width
 unfolding add_size
 add_width s a b both e = go s.content
   where
@@ -101,7 +98,7 @@ add_width s a b both e = go s.content
     go true = rw e
     go false = e
 
-box_width : (s : Style) (l : LengthSize) (b h k : OptionF32) (both : Rect) → s.ratio ≡ None → (box_size s l b h both).width ≡ (box_size (auto_heights s) (auto_height l) b k both).width
+box_width : (s : Style) (l : Size Length) (b h k : Option Float) (both : Rect Float) → s.ratio ≡ None → (box_size s l b h both).width ≡ (box_size (auto_heights s) (auto_height l) b k both).width
 unfolding box_size resolved_size
 box_width s l b h k both e = add_width s _ _ both (filled_width (resolved l.width b) (resolved l.height h) (resolved (auto_part l.height) k) s.ratio e)
 
@@ -120,7 +117,7 @@ across_is y z e = rw e (record { both = refl; padding = refl; border = refl; siz
 auto_style : (s : Style) → NoParts s → auto_heights s ≡ s
 auto_style s n = rw (auto_whole s.size.height n.size, auto_whole s.min.height n.min, auto_whole s.max.height n.max)
 
-no_ratio : (s : Style) (b h k : OptionF32) → s.ratio ≡ None → SameAcross (sizing_of s b h) (sizing_of (auto_heights s) b k)
+no_ratio : (s : Style) (b h k : Option Float) → s.ratio ≡ None → SameAcross (sizing_of s b h) (sizing_of (auto_heights s) b k)
 unfolding sizing_of sized_by
 no_ratio s b h k e =
     let both = plus (resolved_rect s.padding b) (resolved_rect s.border b) in
@@ -133,11 +130,10 @@ no_ratio s b h k e =
       max = box_width s s.max b h k both e;
     }
 
-pub sizing_across : (s : Style) (b h k : OptionF32) → RatioAlone s → SameAcross (sizing_of s b h) (sizing_of (auto_heights s) b k)
-unfolding is_some
+pub sizing_across : (s : Style) (b h k : Option Float) → RatioAlone s → SameAcross (sizing_of s b h) (sizing_of (auto_heights s) b k)
 sizing_across s b h k a = go s.ratio refl
   where
-    go : (r : OptionF32) → s.ratio ≡ r → SameAcross (sizing_of s b h) (sizing_of (auto_heights s) b k)
+    go : (r : Option Float) → s.ratio ≡ r → SameAcross (sizing_of s b h) (sizing_of (auto_heights s) b k)
     go None e = no_ratio s b h k e
     go (Some r) e =
         let n : NoParts s = a (ap is_some e) in

@@ -1,5 +1,5 @@
 -- Bytes written one after the other into a lent buffer; what has no room is left out.
-use Rattle.std.specs.Prelude.{◌≡◌, cond, List, [], ◌∷◌, ℕ, ◌+◌, length, set, ltb}
+use Rattle.std.specs.Prelude.{cond, List, [], ◌∷◌, ℕ, ◌+◌, length, set, ltb}
 
 -- a buffer and the place of the next byte
 pub record Pen : Type 0 where

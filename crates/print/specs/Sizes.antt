@@ -1,12 +1,12 @@
 -- How long the printed texts are at most. Assumes nothing.
-use Rattle.std.specs.Prelude.{◌≡◌, refl, Bool, true, false, cond, List, [], ◌∷◌, ◌++◌, ℕ, zero, suc, ◌+◌, ◌*◌, ◌/◌, ◌%◌, ◌≤◌, length, ltb, eqb, Float}
-use Rattle.std.proofs.Common.{sym, ◌∙◌, ap, arith, mul-suc, length-append}
+use Rattle.steps.specs.declared.Refusal.{Refusal}
+use Rattle.std.specs.Prelude.{◌≡◌, refl, Bool, true, false, cond, List, [], ◌∷◌, ◌++◌, ℕ, zero, suc, ◌+◌, ◌*◌, ◌/◌, ◌%◌, ◌≤◌, length, ltb, eqb, Float, Result}
+use Rattle.std.proofs.Common.{arith, mul-suc, length-append}
 use Rattle.std.specs.Float.{binary32}
 use Rattle.std.specs.Float.Ieee.{to_bits}
 use Rattle.steps.specs.Row.{Row, row_at, is_laid}
 use Rattle.steps.specs.Noes.{paper}
-use Rattle.steps.specs.declared.Answer.{Answer}
-use Rattle.print.specs.Text.{glyph, decimal, hex_text, count_text, number_text, box=, cand=, answer=, candidates=, badline=, newline, box_text, box_of, box_at, each, candidate_text, candidate_line, candidate_at, count_line, answer_text, accepted_text, page_text, bad_text}
+use Rattle.print.specs.Text.{glyph, decimal, hex_text, count_text, number_text, box_text, box_of, box_at, each, candidate_text, candidate_line, candidate_at, count_line, answer_text, accepted_text, page_text, bad_text}
 
 digits_by : (k n : ℕ) (b : Bool) → length (decimal k (n / 10)) ≤ k → length (cond b (glyph n ∷ []) (decimal k (n / 10) ++ (glyph (n % 10) ∷ []))) ≤ suc k
 digits_by k n true h = omega arith
@@ -65,7 +65,7 @@ page_by true n k count rs ms ws xs h = omega (arith, laid_short n rs ms count ws
 page_by false n k count rs ms ws xs h = omega arith
 
 -- an answer with at most k candidates
-pub page_short : (a : Answer) (n k : ℕ) (rs : List Float) (ms ws : List ℕ) (xs : List Float) → (eqb (paper a).0 0 ≡ true → (paper a).1 ≤ k) → length (page_text a n rs ms ws xs) ≤ 82 * n + 74 * k + 81
+pub page_short : (a : Result ℕ Refusal) (n k : ℕ) (rs : List Float) (ms ws : List ℕ) (xs : List Float) → (eqb (paper a).0 0 ≡ true → (paper a).1 ≤ k) → length (page_text a n rs ms ws xs) ≤ 82 * n + 74 * k + 81
 unfolding page_text answer_text
 page_short a n k rs ms ws xs h =
     simp length-append

@@ -1,12 +1,12 @@
 -- What the program prints, line by line.
-use Rattle.std.specs.Prelude.{Bool, cond, List, [], ◌∷◌, ◌++◌, ℕ, zero, suc, ◌+◌, ◌*◌, ◌/◌, ◌%◌, length, get_or, ltb, eqb, Float}
+use Rattle.steps.specs.declared.Refusal.{Refusal}
+use Rattle.std.specs.Prelude.{cond, List, [], ◌∷◌, ◌++◌, ℕ, zero, suc, ◌+◌, ◌*◌, ◌/◌, ◌%◌, get_or, ltb, eqb, Float, Result}
 use Rattle.std.specs.Float.{binary32}
 use Rattle.std.specs.Float.Ieee.{to_bits}
 use Rattle.geometry.specs.Geometry.{zero_f}
 use Rattle.steps.specs.Row.{Row, row_at, is_laid}
 use Rattle.steps.specs.Candidates.{Candidate}
 use Rattle.steps.specs.Noes.{paper}
-use Rattle.steps.specs.declared.Answer.{Answer}
 
 -- a digit below 16 as a byte, lower case
 abbrev pub glyph : ℕ → ℕ
@@ -96,7 +96,7 @@ unfoldable pub accepted_text : ℕ → List Float → List ℕ → ℕ → List 
 accepted_text n rs ms count ws xs = each (box_at rs ms) n ++ count_line candidates= count ++ each (λ i. candidate_line (candidate_at ws xs i)) count
 
 -- a refusal prints only its answer line
-unfoldable pub page_text : Answer → ℕ → List Float → List ℕ → List ℕ → List Float → List ℕ
+unfoldable pub page_text : Result ℕ Refusal → ℕ → List Float → List ℕ → List ℕ → List Float → List ℕ
 page_text a n rs ms ws xs = answer_text (paper a).0 (paper a).1 ++ cond (eqb (paper a).0 0) (accepted_text n rs ms (paper a).1 ws xs) []
 
 -- a bad line prints only its number

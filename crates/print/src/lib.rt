@@ -11,7 +11,7 @@ ghost use Rattle.print.specs.Text.{glyph, decimal, hex_text, count_text, number_
 ghost use Rattle.steps.specs.Noes.{paper};
 
 use lent::{number_at, word_at};
-use steps::{Answer, number_of, place_of};
+use steps::{Refusal, number_of, place_of};
 use tree::{NodeId, Order};
 
 // One byte, if there is room.
@@ -26,26 +26,24 @@ pub fn put(out: &mut [u8], at: usize, b: u8) -> usize
 }
 
 // Some bytes.
-pub fn put_text(out: &mut [u8], at: usize, s: &[u8]) -> usize
+pub fn put_text(out: &mut [u8], mut at: usize, s: &[u8]) -> usize
     ensures { pen out.new result ≡ put_all s.now (pen out.old at) }
 {
-    let mut a = at;
-    let mut i = 0usize;
-    while i < s.len() {
-        a = put(out, a, s[i]);
-        i += 1;
+    for &b in s {
+        at = put(out, at, b);
     }
-    a
+    at
 }
 
+#[tactic(auto, using(std::proofs::lemmas::Bool::Decides::nat_tests))]
 fn glyph(d: u64) -> u8
     requires { d < 16 }
     ensures { result ≡ glyph d }
 {
     if d < 10 {
-        return (48 + d) as u8;
+        return b'0' + d as u8;
     }
-    (87 + d) as u8
+    b'a' + (d - 10) as u8
 }
 
 // At most `places` decimal digits.
@@ -58,8 +56,8 @@ pub fn put_decimal(out: &mut [u8], at: usize, n: u64, places: usize) -> usize
     if n < 10 {
         return put(out, at, glyph(n));
     }
-    let a = put_decimal(out, at, n / 10, places - 1);
-    put(out, a, glyph(n % 10))
+    let at = put_decimal(out, at, n / 10, places - 1);
+    put(out, at, glyph(n % 10))
 }
 
 // The last `places` hex digits.
@@ -69,24 +67,24 @@ pub fn put_hex(out: &mut [u8], at: usize, w: u64, places: usize) -> usize
     if places == 0 {
         return at;
     }
-    let a = put_hex(out, at, w / 16, places - 1);
-    put(out, a, glyph(w % 16))
+    let at = put_hex(out, at, w / 16, places - 1);
+    put(out, at, glyph(w % 16))
 }
 
 // A comma and a count.
 pub fn put_count(out: &mut [u8], at: usize, n: u64) -> usize
     ensures { pen out.new result ≡ put_all (count_text n) (pen out.old at) }
 {
-    let a = put(out, at, b',');
-    put_decimal(out, a, n, 20)
+    let at = put(out, at, b',');
+    put_decimal(out, at, n, 20)
 }
 
 // A comma and a number's bit pattern.
 pub fn put_number(out: &mut [u8], at: usize, x: f32) -> usize
     ensures { pen out.new result ≡ put_all (number_text x) (pen out.old at) }
 {
-    let a = put(out, at, b',');
-    put_hex(out, a, text::bits_of(x) as u64, 8)
+    let at = put(out, at, b',');
+    put_hex(out, at, text::bits_of(x) as u64, 8)
 }
 
 // Node, order, x, y, w, h.
@@ -102,17 +100,18 @@ fn put_box(
 ) -> usize
     ensures { pen out.new result ≡ put_all (box_text node.0 order.0 x y w h) (pen out.old at) }
 {
-    let a = put_text(out, at, b"box=");
-    let b = put_decimal(out, a, node.0 as u64, 20);
-    let c = put_count(out, b, order.0 as u64);
-    let d = put_number(out, c, x);
-    let e = put_number(out, d, y);
-    let f = put_number(out, e, w);
-    let g = put_number(out, f, h);
-    put(out, g, b'\n')
+    let at = put_text(out, at, b"box=");
+    let at = put_decimal(out, at, node.0 as u64, 20);
+    let at = put_count(out, at, order.0 as u64);
+    let at = put_number(out, at, x);
+    let at = put_number(out, at, y);
+    let at = put_number(out, at, w);
+    let at = put_number(out, at, h);
+    put(out, at, b'\n')
 }
 
 // The line of node i, if it is laid.
+#[tactic(auto, unfolding(crate::specs::Text::box_at, crate::specs::Text::box_of, steps::specs::Row::is_laid))]
 fn put_node(out: &mut [u8], at: usize, i: usize, rows: &[f32], marks: &[u32]) -> usize
     requires { i < 4294967296 }
     ensures { pen out.new result ≡ put_all (box_at rows.now marks.now i) (pen out.old at) }
@@ -131,17 +130,14 @@ fn put_node(out: &mut [u8], at: usize, i: usize, rows: &[f32], marks: &[u32]) ->
 }
 
 // The laid ones of n nodes.
-fn put_boxes(out: &mut [u8], at: usize, n: usize, rows: &[f32], marks: &[u32]) -> usize
+fn put_boxes(out: &mut [u8], mut at: usize, n: usize, rows: &[f32], marks: &[u32]) -> usize
     requires { n < 4294967296 }
     ensures { pen out.new result ≡ put_all (each (box_at rows.now marks.now) n) (pen out.old at) }
 {
-    let mut a = at;
-    let mut i = 0usize;
-    while i < n {
-        a = put_node(out, a, i, rows, marks);
-        i += 1;
+    for i in 0..n {
+        at = put_node(out, at, i, rows, marks);
     }
-    a
+    at
 }
 
 // Node, order, start, end, line.
@@ -156,16 +152,17 @@ fn put_record(
 ) -> usize
     ensures { pen out.new result ≡ put_all (candidate_text node.0 order.0 start end line) (pen out.old at) }
 {
-    let a = put_text(out, at, b"cand=");
-    let b = put_decimal(out, a, node.0 as u64, 20);
-    let c = put_count(out, b, order.0 as u64);
-    let d = put_number(out, c, start);
-    let e = put_number(out, d, end);
-    let f = put_number(out, e, line);
-    put(out, f, b'\n')
+    let at = put_text(out, at, b"cand=");
+    let at = put_decimal(out, at, node.0 as u64, 20);
+    let at = put_count(out, at, order.0 as u64);
+    let at = put_number(out, at, start);
+    let at = put_number(out, at, end);
+    let at = put_number(out, at, line);
+    put(out, at, b'\n')
 }
 
 // The line of record i.
+#[tactic(auto, unfolding(crate::specs::Text::candidate_line, crate::specs::Text::candidate_at))]
 fn put_candidate(out: &mut [u8], at: usize, i: usize, pairs: &[u32], triples: &[f32]) -> usize
     requires { i < 4294967296 }
     ensures { pen out.new result ≡ put_all (candidate_line (candidate_at pairs.now triples.now i)) (pen out.old at) }
@@ -178,39 +175,38 @@ fn put_candidate(out: &mut [u8], at: usize, i: usize, pairs: &[u32], triples: &[
     put_record(out, at, node, order, start, end, line)
 }
 
-fn put_candidates(out: &mut [u8], at: usize, n: usize, pairs: &[u32], triples: &[f32]) -> usize
+fn put_candidates(out: &mut [u8], mut at: usize, n: usize, pairs: &[u32], triples: &[f32]) -> usize
     requires { n < 4294967296 }
     ensures { pen out.new result ≡ put_all (each (λ i. candidate_line (candidate_at pairs.now triples.now i)) n) (pen out.old at) }
 {
-    let mut a = at;
-    let mut i = 0usize;
-    while i < n {
-        a = put_candidate(out, a, i, pairs, triples);
-        i += 1;
+    for i in 0..n {
+        at = put_candidate(out, at, i, pairs, triples);
     }
-    a
+    at
 }
 
 // A key, one number, a newline.
+#[tactic(auto, using(crate::proofs::PenLaws::put_append), unfolding(crate::specs::Text::count_line))]
 fn put_line(out: &mut [u8], at: usize, key: &[u8], n: u64) -> usize
     ensures { pen out.new result ≡ put_all (count_line key.now n) (pen out.old at) }
 {
-    let a = put_text(out, at, key);
-    let b = put_decimal(out, a, n, 20);
-    put(out, b, b'\n')
+    let at = put_text(out, at, key);
+    let at = put_decimal(out, at, n, 20);
+    put(out, at, b'\n')
 }
 
 // A number and a place.
 pub fn put_answer(out: &mut [u8], at: usize, number: u32, place: u32) -> usize
     ensures { pen out.new result ≡ put_all (answer_text number place) (pen out.old at) }
 {
-    let a = put_text(out, at, b"answer=");
-    let b = put_decimal(out, a, number as u64, 20);
-    let c = put_count(out, b, place as u64);
-    put(out, c, b'\n')
+    let at = put_text(out, at, b"answer=");
+    let at = put_decimal(out, at, number as u64, 20);
+    let at = put_count(out, at, place as u64);
+    put(out, at, b'\n')
 }
 
 // The boxes and candidates of an accepted page.
+#[tactic(auto, using(crate::proofs::PenLaws::put_append), unfolding(crate::specs::Text::accepted_text))]
 fn put_laid(
     out: &mut [u8],
     at: usize,
@@ -224,15 +220,16 @@ fn put_laid(
     requires { n < 4294967296 }
     ensures { pen out.new result ≡ put_all (accepted_text n rows.now marks.now count pairs.now triples.now) (pen out.old at) }
 {
-    let a = put_boxes(out, at, n, rows, marks);
-    let b = put_line(out, a, b"candidates=", count as u64);
-    put_candidates(out, b, count as usize, pairs, triples)
+    let at = put_boxes(out, at, n, rows, marks);
+    let at = put_line(out, at, b"candidates=", count as u64);
+    put_candidates(out, at, count as usize, pairs, triples)
 }
 
 // What a page's answer prints, at the front of `out`, and how many bytes it is.
+#[tactic(auto, using(crate::proofs::PenLaws::put_append), unfolding(crate::specs::Text::page_text, steps::specs::Noes::paper))]
 pub fn print_answer(
     out: &mut [u8],
-    answer: Answer,
+    answer: Result<u32, Refusal>,
     n: usize,
     rows: &[f32],
     marks: &[u32],
@@ -242,16 +239,15 @@ pub fn print_answer(
     requires { n < 4294967296 }
     ensures { pen out.new result ≡ put_all (page_text answer n rows.now marks.now pairs.now triples.now) (pen out.old 0) }
 {
-    let number = number_of(answer);
-    let place = place_of(answer);
-    let a = put_answer(out, 0, number, place);
-    if number == 0 {
-        return put_laid(out, a, n, rows, marks, place, pairs, triples);
+    let at = put_answer(out, 0, number_of(answer), place_of(answer));
+    match answer {
+        Ok(count) => put_laid(out, at, n, rows, marks, count, pairs, triples),
+        Err(_) => at,
     }
-    a
 }
 
 // What a bad line prints.
+#[tactic(auto, unfolding(crate::specs::Text::bad_text))]
 pub fn print_bad(out: &mut [u8], line: usize) -> usize
     ensures { pen out.new result ≡ put_all (bad_text line) (pen out.old 0) }
 {

@@ -1,10 +1,9 @@
 -- The width pass of one node and of one child, as equations; a child keeps its number of nodes.
+use Rattle.std.specs.Prelude.{Option, None, Some}
 use mathlib.Core.Path.{◌≡◌, refl, sym, ap, ◌∙◌}
 use mathlib.Core.Bool.{Bool, true, false}
 use lib.Ieee.{Float}
 use Rattle.geometry.specs.Geometry.{zero_f}
-use Rattle.util.specs.declared.OptionF32.{OptionF32}
-use Rattle.util.specs.declared.OptionF32.TheVariants.{None, Some}
 use Rattle.length.specs.declared.AvailableSpace.{AvailableSpace}
 use Rattle.tree.specs.Tree.{Tree, Forest, node, more, count_t, map_f, root_t}
 use Rattle.tree.proofs.Laws.{count_map_t}
@@ -23,11 +22,11 @@ use Rattle.steps.proofs.Clauses.{widest_in, by_f, probe_t_leaf, probe_t_block, p
 use Rattle.steps.proofs.Cells.{cell_in, cells_ask}
 use Rattle.probing.specs.Contract.{kids_t, Widened, widened_by, widened_t}
 
-block_known : (l : Cell) (ks : Forest Cell) (q : ProbeInput) (k : OptionF32) (w : Float) (r : Widest) → k ≡ Some w → block_probe l q ks k r ≡ asked l q w (map_f cleared ks)
+block_known : (l : Cell) (ks : Forest Cell) (q : ProbeInput) (k : Option Float) (w : Float) (r : Widest) → k ≡ Some w → block_probe l q ks k r ≡ asked l q w (map_f cleared ks)
 unfolding block_probe
 block_known l ks q k w r e = rw e
 
-block_below : (l : Cell) (ks : Forest Cell) (q : ProbeInput) (k : OptionF32) (r : Widest) → k ≡ None → block_probe l q ks k r ≡ asked l q (found_width l.site.style None r.most) r.nodes
+block_below : (l : Cell) (ks : Forest Cell) (q : ProbeInput) (k : Option Float) (r : Widest) → k ≡ None → block_probe l q ks k r ≡ asked l q (found_width l.site.style None r.most) r.nodes
 unfolding block_probe
 block_below l ks q k r e = rw e
 
@@ -52,7 +51,7 @@ unfolding asked kids_t
 asked_node l q w us p e = rw e
 
 -- the root of a probe put anew notes its answer
-known_node : (l : Cell) (ks : Forest Cell) (q : ProbeInput) (k : OptionF32) → is_leaf l.site.style.kind ≡ false → (probe_known l.site.style q).width ≡ k
+known_node : (l : Cell) (ks : Forest Cell) (q : ProbeInput) (k : Option Float) → is_leaf l.site.style.kind ≡ false → (probe_known l.site.style q).width ≡ k
     → (probe_t (node l ks) q).nodes ≡ node (probed_anew l (probe_note q (probe_t (node l ks) q).answer)) (kids_t (probe_t (node l ks) q).nodes)
 known_node l ks q (Some w) e k = asked_node l q w (map_f cleared ks) (probe_t (node l ks) q) (probe_t_known l ks q w e k)
 known_node l ks q None e k = asked_node l q _ _ (probe_t (node l ks) q) (probe_t_below l ks q e k)

@@ -1,4 +1,6 @@
 -- What `width_pass` does with a page, in plain terms.
+use Rattle.std.specs.Prelude.{Option, None, Some}
+use Rattle.geometry.specs.declared.Size.{Size}
 use mathlib.Core.Path.{◌≡◌, sym, ap, ◌∙◌}
 use mathlib.Core.List.{List, ◌++◌}
 use Prim.Native.Nat.{ℕ, ◌+◌, ◌-◌, ◌≤◌}
@@ -7,8 +9,6 @@ use lib.ListN.{length, take, drop}
 use lib.Ieee.{Float}
 use borrow.Rule.Slice.PartMut.{put_mid}
 use Rattle.geometry.specs.Geometry.{zero_f}
-use Rattle.util.specs.declared.OptionF32.TheVariants.{None, Some}
-use Rattle.util.specs.declared.OptionSize.{OptionSize}
 use Rattle.length.specs.declared.AvailableSpace.{AvailableSpace}
 use Rattle.style.specs.Style.{style_at}
 use Rattle.style.specs.declared.Style.{Style}
@@ -60,9 +60,9 @@ kids_given ws xs rs ms es rs1 ms1 h cl = go h.tree h.tabled h.deep h.fit h.reach
         let x = simp count_t_node at reach in
         record { forest = ks; tabled = kids_tabled ws xs rs ms es l ks rs1 ms1 k (headed ws xs rs ms es l ks rs1 ms1 k cl); deep = omega arith; fit = omega arith; reach = omega arith }
 
-module _ (ws : List ℕ) (xs rs : List Float) (ms es : List ℕ) (q : LayoutInput) (s : Style) (z : Sizing) (known : OptionSize) (hs : s ≡ style_at ws 0 xs 0) (hz : z ≡ step_a s q.parent) (hk : known ≡ known_of s z q.known) where
+module _ (ws : List ℕ) (xs rs : List Float) (ms es : List ℕ) (q : LayoutInput) (s : Style) (z : Sizing) (known : Size (Option Float)) (hs : s ≡ style_at ws 0 xs 0) (hz : z ≡ step_a s q.parent) (hk : known ≡ known_of s z q.known) where
   known_is : (l : Cell) → s ≡ l.site.style → (known_of l.site.style (step_a l.site.style q.parent) q.known).width ≡ known.width
-  known_is l st = ap (λ (v : Style). (known_of v (step_a v q.parent) q.known).width) (sym st) ∙ ap (λ (v : Sizing). (known_of s v q.known).width) (sym hz) ∙ ap (λ (v : OptionSize). v.width) (sym hk)
+  known_is l st = ap (λ (v : Style). (known_of v (step_a v q.parent) q.known).width) (sym st) ∙ ap (λ (v : Sizing). (known_of s v q.known).width) (sym hz) ∙ ap (λ (v : Size (Option Float)). v.width) (sym hk)
 
   -- a known width: no probe stays
   pub passed-known : (w : Float) (rs' : List Float) (ms' : List ℕ) → known.width ≡ Some w → AllBecome rs ms rs' ms' cleared_row → PassedT ws xs rs ms es q zero_f rs' ms'

@@ -1,4 +1,6 @@
 -- What each member of the cycle does with one tree, in plain terms.
+use Rattle.std.specs.Prelude.{Option, None, Some, is_some}
+use Rattle.geometry.specs.declared.Size.{Size}
 use mathlib.Core.Path.{◌≡◌, refl, sym, ap, ◌∙◌}
 use mathlib.Core.Bool.{Bool, true, false, cond, true≢false}
 use mathlib.Core.List.{List, [], ◌∷◌, ◌++◌}
@@ -13,10 +15,6 @@ use denote.Enum.Declared.{tag_of}
 use Rattle.steps.specs.contracts.Want.{the_type}
 use Rattle.geometry.specs.Geometry.{zero_f}
 use Rattle.util.specs.Math.{larger}
-use Rattle.util.specs.Maybe.{is_some}
-use Rattle.util.specs.declared.OptionF32.{OptionF32}
-use Rattle.util.specs.declared.OptionF32.TheVariants.{None, Some}
-use Rattle.util.specs.declared.OptionSize.{OptionSize}
 use Rattle.length.specs.declared.AvailableSpace.{AvailableSpace}
 use Rattle.style.specs.Style.{style_at}
 use Rattle.style.specs.declared.Style.{Style}
@@ -114,7 +112,7 @@ made_anew rs ms q l ks r w us e h =
     let root : root_t (node l ks) ≡ l = root_t_node l ks in
     (e ∙ sym (ap (λ (p : Probed). p.answer) h.made ∙ asked_answer l q w us), h.rows_are ∙ rw (kids, root), h.marks_are ∙ rw (kids, root))
 
-abbrev or_else : Float → OptionF32 → Float
+abbrev or_else : Float → Option Float → Float
 or_else x None = x
 or_else x (Some y) = y
 
@@ -128,23 +126,23 @@ module _ (ws : List ℕ) (xs rs : List Float) (ms es : List ℕ) (b : ℕ) (q : 
       made_anew rs' ms' q l ks r (leaf_width l.site.style.measure q.available) (map_f cleared ks) (hr ∙ ap (λ (z : Style). leaf_width z.measure q.available) st)
       (record { made = probe_t_leaf l ks q lf2; rows_are = c.0; marks_are = c.1 })
 
-  anew-known : (known : OptionSize) (w : Float) (rs' : List Float) (ms' : List ℕ) → is_leaf s.kind ≡ false → known ≡ probe_known s q → known.width ≡ Some w → RestCleared rs ms rs' ms' → AnewT ws xs rs ms es b q w rs' ms'
+  anew-known : (known : Size (Option Float)) (w : Float) (rs' : List Float) (ms' : List ℕ) → is_leaf s.kind ≡ false → known ≡ probe_known s q → known.width ≡ Some w → RestCleared rs ms rs' ms' → AnewT ws xs rs ms es b q w rs' ms'
   anew-known known w rs' ms' lf hk kw cl (node l ks) h =
       let k = tree_facts ws xs rs ms es b l ks h in
       let st = root_style ws xs rs ms es b s l ks h hs in
       let c = rest_cleared rs ms rs' ms' l.old ks k.rows_head k.marks_head cl in
       let lf2 : is_leaf l.site.style.kind ≡ false = ap (λ (z : Style). is_leaf z.kind) (sym st) ∙ lf in
-      let kn : (probe_known l.site.style q).width ≡ Some w = ap (λ (z : Style). (probe_known z q).width) (sym st) ∙ ap (λ (z : OptionSize). z.width) (sym hk) ∙ kw in
+      let kn : (probe_known l.site.style q).width ≡ Some w = ap (λ (z : Style). (probe_known z q).width) (sym st) ∙ ap (λ (z : Size (Option Float)). z.width) (sym hk) ∙ kw in
       made_anew rs' ms' q l ks w w (map_f cleared ks) refl (record { made = probe_t_known l ks q w lf2 kn; rows_are = c.0; marks_are = c.1 })
 
-  anew-below : (known : OptionSize) (a : AvailableSpace) (most r : Float) (nr : List Float) (nm : List ℕ) → is_leaf s.kind ≡ false → known ≡ probe_known s q → known.width ≡ None → a ≡ space_in s None q.available
+  anew-below : (known : Size (Option Float)) (a : AvailableSpace) (most r : Float) (nr : List Float) (nm : List ℕ) → is_leaf s.kind ≡ false → known ≡ probe_known s q → known.width ≡ None → a ≡ space_in s None q.available
       → WidestF (take (length ws - 4) (drop 4 ws)) xs (take (length rs - 16) (drop 16 rs)) (take (length ms - 2) (drop 2 ms)) es (b + 1) a most nr nm → r ≡ found_width s None most
       → AnewT ws xs rs ms es b q r (put_mid 16 (length rs - 16) rs nr) (put_mid 2 (length ms - 2) ms nm)
   anew-below known a most r nr nm lf hk kw ha hw hr (node l ks) h =
       let k = tree_facts ws xs rs ms es b l ks h in
       let st = root_style ws xs rs ms es b s l ks h hs in
       let lf2 : is_leaf l.site.style.kind ≡ false = ap (λ (z : Style). is_leaf z.kind) (sym st) ∙ lf in
-      let kn : (probe_known l.site.style q).width ≡ None = ap (λ (z : Style). (probe_known z q).width) (sym st) ∙ ap (λ (z : OptionSize). z.width) (sym hk) ∙ kw in
+      let kn : (probe_known l.site.style q).width ≡ None = ap (λ (z : Style). (probe_known z q).width) (sym st) ∙ ap (λ (z : Size (Option Float)). z.width) (sym hk) ∙ kw in
       let ea : probe_f ks a zero_f ≡ widest_in l ks q = ap (λ (z : AvailableSpace). probe_f ks z zero_f) (ha ∙ ap (λ (z : Style). space_in z None q.available) st) in
       let g = hw ks k.kids in
       let t16 : take 16 rs ≡ row_numbers l.old = ap (take 16) k.rows_head in
@@ -173,7 +171,6 @@ module _ (ws : List ℕ) (xs rs : List Float) (ms es : List ℕ) (b : ℕ) (q : 
   pub anew-inside : (a : AvailableSpace) (most r : Float) (nr : List Float) (nm : List ℕ) → width_at_once s q ≡ None → a ≡ space_in s None q.available
       → WidestF (take (length ws - 4) (drop 4 ws)) xs (take (length rs - 16) (drop 16 rs)) (take (length ms - 2) (drop 2 ms)) es (b + 1) a most nr nm → r ≡ found_width s None most
       → AnewT ws xs rs ms es b q r (put_mid 16 (length rs - 16) rs nr) (put_mid 2 (length ms - 2) ms nm)
-  unfolding is_some
   anew-inside a most r nr nm e ha hw hr = go (is_leaf s.kind) refl
     where
       go : (v : Bool) → is_leaf s.kind ≡ v → AnewT ws xs rs ms es b q r (put_mid 16 (length rs - 16) rs nr) (put_mid 2 (length ms - 2) ms nm)

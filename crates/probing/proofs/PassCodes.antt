@@ -1,12 +1,11 @@
 -- The nodes that a width pass leaves have probe codes below 16.
+use Rattle.std.specs.Prelude.{Option, None, Some}
 use mathlib.Core.Path.{◌≡◌, refl}
 use mathlib.Core.Bool.{Bool, true, false}
 use Prim.Native.Nat.{◌<◌}
 use native.Mathlib.Omega.{arith}
 use lib.Ieee.{Float}
 use Rattle.geometry.specs.Geometry.{zero_f}
-use Rattle.util.specs.declared.OptionF32.{OptionF32}
-use Rattle.util.specs.declared.OptionF32.TheVariants.{None, Some}
 use Rattle.length.specs.declared.AvailableSpace.{AvailableSpace}
 use Rattle.tree.specs.Tree.{Tree, Forest, node, none, more, map_t, map_f, root_t}
 use Rattle.style.specs.Flow.{is_leaf}
@@ -56,7 +55,7 @@ codes_asked : (l : Cell) (q : ProbeInput) (w : Float) (us : Forest Node) → Cod
 unfolding asked probed_anew probe_note CodesT
 codes_asked l q w us h = (code_small q, h)
 
-codes_block : (l : Cell) (ks : Forest Cell) (q : ProbeInput) (k : OptionF32) (r : Widest) → CodesF r.nodes → CodesT (block_probe l q ks k r).nodes
+codes_block : (l : Cell) (ks : Forest Cell) (q : ProbeInput) (k : Option Float) (r : Widest) → CodesF r.nodes → CodesT (block_probe l q ks k r).nodes
 unfolding block_probe
 codes_block l ks q (Some w) r h = codes_asked l q w (map_f cleared ks) (cleared_f ks)
 codes_block l ks q None r h = codes_asked l q _ r.nodes h
@@ -96,7 +95,7 @@ mutual
   codes_probe_f (more t ts) a m = rw (widened_more t ts a m) (codes_more _ _ (codes_one m a t (λ q. codes_probe_t t q)) (codes_probe_f ts a (widened_t m a t).most))
 
 -- the page
-codes_page : (l : Cell) (ks : Forest Cell) (k parent : OptionF32) (r : Widest) → CodesF r.nodes → CodesT (pass_by l ks k parent r).nodes
+codes_page : (l : Cell) (ks : Forest Cell) (k parent : Option Float) (r : Widest) → CodesF r.nodes → CodesT (pass_by l ks k parent r).nodes
 unfolding pass_by CodesT
 codes_page l ks (Some w) parent r h = (cleared_small l, cleared_f ks)
 codes_page l ks None parent r h = (cleared_small l, h)

@@ -7,8 +7,8 @@ ghost use Rattle.rows.specs.Store.{OneRow, Becomes, cleared_row};
 ghost use Rattle.probing.specs.Contract.{IsTree, IsForest, Rows, RestCleared, Stands, most_past, ProbedT, AnewT, WidenedT, WidestF, PassedT};
 
 use length::AvailableSpace;
+use reader::Reader;
 use steps::{LayoutInput, ProbeInput, Want};
-use util::OptionF32;
 
 // The levels that are left below the root.
 const BELOW_ROOT: usize = tree::MAX_DEPTH - 1;
@@ -68,6 +68,7 @@ fn determine_content_based_container_width(
 {
     let mut most = 0.0f32;
     let mut i = 0usize;
+    // No `for`: a step is as long as its run.
     while style::WORDS * i < words.len() {
         let e = i + style::word_in(words, i, style::SIZE) as usize;
         let i4 = style::WORDS * i;
@@ -108,11 +109,11 @@ fn widen(
     requires { IsTree words.now numbers.now rows.old marks.old edits.now base depth }
     ensures { WidenedT words.now numbers.now rows.old marks.old edits.now base a most result rows.new marks.new }
 {
-    let r = reader::reader_at(words, numbers, base);
-    let want = widths::want_of(r, numbers, a);
+    let r = Reader::at(words, numbers, base);
+    let want = widths::want_of(r, a);
     if let Want::Probe(q) = want {
         let w = probe(words, numbers, rows, marks, edits, base, depth, q);
-        return util::f32_max(most, widths::outer_width(r, numbers, a, w));
+        return util::f32_max(most, widths::outer_width(r, a, w));
     }
     rows::clear_probes(rows, marks);
     most_past(want, most)
@@ -160,13 +161,13 @@ fn probe_anew(
     let a = q.available;
     let width = widths::width_at_once(words, numbers, base, q);
     match width {
-        OptionF32::Some(w) => {
+        Some(w) => {
             clear_rest(rows, marks);
             w
         }
-        OptionF32::None => {
-            let r = reader::reader_at(words, numbers, base);
-            let inside = widths::available_inside(r, numbers, OptionF32::None, a);
+        None => {
+            let r = Reader::at(words, numbers, base);
+            let inside = widths::available_inside(r, None, a);
             let most = determine_content_based_container_width(
                 &words[style::WORDS..],
                 numbers,
@@ -177,7 +178,7 @@ fn probe_anew(
                 depth - 1,
                 inside,
             );
-            widths::width_from(r, numbers, OptionF32::None, most)
+            widths::width_from(r, None, most)
         }
     }
 }
@@ -194,21 +195,21 @@ pub fn width_pass(
     requires { IsTree words.now numbers.now rows.old marks.old edits.now 0 32 }
     ensures { PassedT words.now numbers.now rows.old marks.old edits.now q result rows.new marks.new }
 {
-    let r = reader::reader_at(words, numbers, 0);
+    let r = Reader::at(words, numbers, 0);
     let parent = q.parent;
     let asked = q.known;
     let available = q.available;
-    let z = sizing::sizing_without_height_basis(r, numbers, parent);
-    let known = sizing::known_dimensions(reader::ratio(r, numbers), z, asked);
+    let z = sizing::sizing_without_height_basis(r, parent);
+    let known = sizing::known_dimensions(r.ratio(), z, asked);
     let width = known.width;
     match width {
-        OptionF32::Some(_) => {
+        Some(_) => {
             rows::clear_probes(rows, marks);
             0.0
         }
-        OptionF32::None => {
+        None => {
             clear_first(rows, marks);
-            let inside = widths::available_inside(r, numbers, parent, available);
+            let inside = widths::available_inside(r, parent, available);
             let most = determine_content_based_container_width(
                 &words[style::WORDS..],
                 numbers,
@@ -219,7 +220,7 @@ pub fn width_pass(
                 BELOW_ROOT,
                 inside,
             );
-            widths::width_from(r, numbers, parent, most)
+            widths::width_from(r, parent, most)
         }
     }
 }

@@ -1,13 +1,11 @@
 -- The profile on trees, as the steps read a style; and that tables of the profile are such a page.
-use Rattle.std.specs.Prelude.{◌≡◌, refl, Bool, true, false, cond, not, ◌&&◌, ◌||◌, List, [], ◌∷◌, ℕ, zero, suc, ◌+◌, ◌-◌, ◌<◌, ◌≤◌, take, drop, eqb, Float}
+use Rattle.length.specs.declared.Length.{Length}
+use Rattle.geometry.specs.declared.Size.{Size}
+use Rattle.geometry.specs.declared.Rect.{Rect}
+use Rattle.std.specs.Prelude.{◌≡◌, refl, Bool, true, false, cond, not, ◌&&◌, ◌||◌, List, [], ◌∷◌, ℕ, zero, suc, ◌+◌, ◌-◌, ◌<◌, ◌≤◌, take, drop, eqb, Float, Option, None, Some, is_some}
 use Rattle.std.proofs.Common.{ap, arith, ne_eqb}
 use Rattle.limits.specs.Bools.{and_fst, and_snd}
-use Rattle.util.specs.Maybe.{is_some}
-use Rattle.util.specs.declared.OptionF32.{OptionF32}
-use Rattle.util.specs.declared.OptionF32.TheVariants.{None, Some}
 use Rattle.length.specs.Available.{definite}
-use Rattle.length.specs.declared.LengthRect.{LengthRect}
-use Rattle.length.specs.declared.LengthSize.{LengthSize}
 use Rattle.style.specs.Codes.{flag_at, baseline_of}
 use Rattle.style.specs.Style.{word_at, number_at, measure_at, style_at}
 use Rattle.style.specs.declared.Style.{Style}
@@ -19,11 +17,11 @@ use Rattle.whole.specs.Test.{pixel}
 use Rattle.laws.specs.Trees.{AllF, not_true}
 use Rattle.profile.specs.Profile.{whole_length, whole_option, centers, whole_size, whole_rect, whole_sizes, whole_sides, whole_table, plain_style, profile_style, two_autos, of_profile, whole_question}
 
-pub record WholeSize (l : LengthSize) : Type 0 where
+pub record WholeSize (l : Size Length) : Type 0 where
   pub width : whole_length l.width ≡ true
   pub height : whole_length l.height ≡ true
 
-pub record WholeRect (l : LengthRect) : Type 0 where
+pub record WholeRect (l : Rect Length) : Type 0 where
   pub top : whole_length l.top ≡ true
   pub right : whole_length l.right ≡ true
   pub bottom : whole_length l.bottom ≡ true
@@ -64,17 +62,16 @@ pub record ProfileQuestion (q : LayoutInput) : Type 0 where
   pub available : whole_option (definite q.available) ≡ true
 
 -- ---- the tests give the records
-whole_size_lem : (l : LengthSize) → whole_size l ≡ true → WholeSize l
+whole_size_lem : (l : Size Length) → whole_size l ≡ true → WholeSize l
 whole_size_lem l e = record { width = and_fst (whole_length l.width) _ e; height = and_snd (whole_length l.width) _ e }
 
-whole_rect_lem : (l : LengthRect) → whole_rect l ≡ true → WholeRect l
+whole_rect_lem : (l : Rect Length) → whole_rect l ≡ true → WholeRect l
 whole_rect_lem l e =
     let a = and_snd (whole_length l.top) _ e in
     let b = and_snd (whole_length l.right) _ a in
     record { top = and_fst (whole_length l.top) _ e; right = and_fst (whole_length l.right) _ a; bottom = and_fst (whole_length l.bottom) _ b; left = and_snd (whole_length l.bottom) _ b }
 
-no_ratio : (o : OptionF32) → not (is_some o) ≡ true → o ≡ None
-unfolding is_some
+no_ratio : (o : Option Float) → not (is_some o) ≡ true → o ≡ None
 no_ratio None e = refl
 no_ratio (Some x) e = cc
 

@@ -5,16 +5,13 @@
 --   no child with two auto side margins                            two_autos (of_profile)
 --   question numbers                                               whole_question
 -- a node: of_profile; the yes or no with its place: profile_spot.
-use Rattle.std.specs.Prelude.{Bool, true, false, cond, not, ◌&&◌, ◌||◌, List, ℕ, eqb, Float}
-use Rattle.util.specs.Maybe.{is_some}
-use Rattle.util.specs.declared.OptionF32.{OptionF32}
-use Rattle.util.specs.declared.OptionF32.TheVariants.{None, Some}
+use Rattle.geometry.specs.declared.Size.{Size}
+use Rattle.geometry.specs.declared.Rect.{Rect}
+use Rattle.std.specs.Prelude.{Bool, true, false, cond, not, ◌&&◌, ◌||◌, List, ℕ, eqb, Float, Option, None, Some, is_some}
 use Rattle.length.specs.Length.{is_auto}
 use Rattle.length.specs.Available.{definite}
 use Rattle.length.specs.declared.Length.{Length}
 use Rattle.length.specs.declared.Length.TheVariants.{Auto, Pixels, Fraction}
-use Rattle.length.specs.declared.LengthRect.{LengthRect}
-use Rattle.length.specs.declared.LengthSize.{LengthSize}
 use Rattle.style.specs.Style.{number_at, style_at}
 use Rattle.style.specs.declared.AlignContent.{AlignContent}
 use Rattle.style.specs.declared.AlignContent.TheVariants.{Normal, Start, Center, End, SpaceBetween, SpaceAround, SpaceEvenly, Stretch}
@@ -23,8 +20,6 @@ use Rattle.style.specs.declared.Style.{Style}
 use Rattle.steps.specs.Scan.{first_of}
 use Rattle.steps.specs.Page.{nodes_in}
 use Rattle.steps.specs.declared.LayoutInput.{LayoutInput}
-use Rattle.steps.specs.declared.Spot.{Spot}
-use Rattle.steps.specs.declared.Spot.TheVariants.{Nowhere, At}
 use Rattle.whole.specs.Test.{pixel}
 
 -- a pixel length is a whole pixel; what an auto field holds is no length; a fraction is not of the profile
@@ -34,7 +29,7 @@ whole_length (Pixels x) = pixel x
 whole_length (Fraction f) = false
 
 -- a number that may be missing is a whole pixel where it is there
-abbrev pub whole_option : OptionF32 → Bool
+abbrev pub whole_option : Option Float → Bool
 whole_option None = true
 whole_option (Some x) = pixel x
 
@@ -49,10 +44,10 @@ centers SpaceAround = true
 centers SpaceEvenly = true
 centers Stretch = false
 
-abbrev pub whole_size : LengthSize → Bool
+abbrev pub whole_size : Size Length → Bool
 whole_size l = whole_length l.width && whole_length l.height
 
-abbrev pub whole_rect : LengthRect → Bool
+abbrev pub whole_rect : Rect Length → Bool
 whole_rect l = whole_length l.top && (whole_length l.right && (whole_length l.bottom && whole_length l.left))
 
 -- size, minimum and maximum; margin, padding, border and inset
@@ -91,9 +86,9 @@ whole_question q =
     whole_option q.known.width && (whole_option q.known.height && (whole_option q.parent && (whole_option q.basis && whole_option (definite q.available))))
 
 -- The yes or no: nowhere, or the lowest node that is not of the profile, or n where the question alone is not.
-unfoldable pub else_at : Spot → Bool → ℕ → Spot
-else_at (At k) whole n = At k
-else_at Nowhere whole n = cond whole Nowhere (At n)
+unfoldable pub else_at : Option ℕ → Bool → ℕ → Option ℕ
+else_at (Some k) whole n = Some k
+else_at None whole n = cond whole None (Some n)
 
-unfoldable pub profile_spot : List ℕ → List Float → LayoutInput → Spot
+unfoldable pub profile_spot : List ℕ → List Float → LayoutInput → Option ℕ
 profile_spot ws xs q = else_at (first_of (outside ws xs) (nodes_in ws)) (whole_question q) (nodes_in ws)

@@ -1,17 +1,16 @@
 -- What the calls asked as profile promise: the answer, by its number and place too, and every word of lent memory are the definition's.
-use Rattle.std.specs.Prelude.{◌≡◌, List, ℕ, Float}
-use Rattle.steps.specs.declared.Tested.{Tested}
-use Rattle.steps.specs.declared.Tested.TheVariants.{Pass}
+use Rattle.steps.specs.declared.Refusal.{Refusal}
+use Rattle.profiled.specs.declared.ProfileRefusal.{ProfileRefusal}
+use Rattle.geometry.specs.declared.Size.{Size}
+use Rattle.std.specs.Prelude.{◌≡◌, List, ℕ, Float, Result, Ok, ⊤}
 use Rattle.profiles.specs.Numbers.{Placed}
 use Rattle.profiled.specs.Profiled.{ProfileReply, profile_paper, profile_size_paper}
-use Rattle.profiled.specs.declared.ProfileAnswer.{ProfileAnswer}
-use Rattle.profiled.specs.declared.ProfileSize.{ProfileSize}
 
 -- tests that pass have counted the nodes, and their numbers
-abbrev pub Few : Tested → List ℕ → List Float → Type 0
-Few t ws xs = t ≡ Pass → Placed ws xs
+abbrev pub Few : Result ⊤ Refusal → List ℕ → List Float → Type 0
+Few t ws xs = t ≡ Ok tt → Placed ws xs
 
-pub record ProfileReplied (want : ProfileReply) (answer : ProfileAnswer) (rows : List Float) (marks : List ℕ) (pairs : List ℕ) (triples : List Float) : Type 0 where
+pub record ProfileReplied (want : ProfileReply) (answer : Result ℕ ProfileRefusal) (rows : List Float) (marks : List ℕ) (pairs : List ℕ) (triples : List Float) : Type 0 where
   pub answer_is : answer ≡ want.answer
   pub paper_is : profile_paper answer ≡ profile_paper want.answer
   pub rows_are : rows ≡ want.rows
@@ -20,10 +19,10 @@ pub record ProfileReplied (want : ProfileReply) (answer : ProfileAnswer) (rows :
   pub numbers_are : triples ≡ want.numbers
 
 -- the yes or no: the answer, by its number and place too
-pub record ProfileSaid (want answer : ProfileAnswer) : Type 0 where
+pub record ProfileSaid (want answer : Result ℕ ProfileRefusal) : Type 0 where
   pub answer_is : answer ≡ want
   pub paper_is : profile_paper answer ≡ profile_paper want
 
-pub record ProfileSized (want answer : ProfileSize) : Type 0 where
+pub record ProfileSized (want answer : Result (Size Float) ProfileRefusal) : Type 0 where
   pub answer_is : answer ≡ want
   pub paper_is : profile_size_paper answer ≡ profile_size_paper want

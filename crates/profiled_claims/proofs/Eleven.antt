@@ -1,32 +1,30 @@
 -- 11 is given exactly if 1 to 4 are not due and the page or the question is not of the profile, at its place; and it leaves all as lent.
-use Rattle.std.specs.Prelude.{◌≡◌, List, ℕ, Float}
+use Rattle.profiled.specs.declared.ProfileRefusal.TheVariants.{Outside}
+use Rattle.std.specs.Prelude.{◌≡◌, List, ℕ, Float, Some, Ok, Err}
 use Rattle.std.proofs.Math.Path.{ap}
 use Rattle.steps.specs.declared.LayoutInput.{LayoutInput}
 use Rattle.steps.specs.Results.{layout_result, relayout_result}
-use Rattle.steps.specs.declared.Tested.TheVariants.{Pass}
-use Rattle.steps.specs.declared.Spot.TheVariants.{At}
 use Rattle.tables.proofs.Exactly.{Exactly}
 use Rattle.profile.specs.Profile.{profile_spot}
 use Rattle.tables.specs.Early.{early_tested}
 use Rattle.profiled.specs.Profiled.{ProfileReply, profiled_layout_result, profiled_relayout_result}
-use Rattle.profiled.specs.declared.ProfileAnswer.TheVariants.{Outside}
 use Rattle.profiled_claims.specs.Cases.{eleven-at, at-eleven}
 use Rattle.profiled_claims.specs.Eleven.{OutsideAt, place_is, EarlySound, early_exactly}
 
 -- ---- layout and relayout
 module _ (ws : List ℕ) (xs rs : List Float) (ms cw : List ℕ) (cx : List Float) (q : LayoutInput) (k : ℕ) where
-  eleven : early_tested ws xs rs ms q ≡ Pass → profile_spot ws xs q ≡ At k → EarlySound ws xs rs ms q × OutsideAt ws xs q k
+  eleven : early_tested ws xs rs ms q ≡ Ok tt → profile_spot ws xs q ≡ Some k → EarlySound ws xs rs ms q × OutsideAt ws xs q k
   eleven e f = ((early_exactly ws xs rs ms q).only e, (place_is ws xs q k).only f)
 
   -- all as lent
   abbrev pub outside_reply : ProfileReply
-  outside_reply = record { answer = Outside k; rows = rs; marks = ms; words = cw; numbers = cx }
+  outside_reply = record { answer = Err (Outside k); rows = rs; marks = ms; words = cw; numbers = cx }
 
   pub layout-eleven-leaves : EarlySound ws xs rs ms q → OutsideAt ws xs q k → profiled_layout_result ws xs rs ms cw cx q ≡ outside_reply
   unfolding profiled_layout_result
   layout-eleven-leaves s o = at-eleven (layout_result ws xs rs ms cw cx q) rs ms cw cx (early_tested ws xs rs ms q) (profile_spot ws xs q) k ((early_exactly ws xs rs ms q).given s) ((place_is ws xs q k).given o)
 
-  pub layout-eleven : Exactly ((profiled_layout_result ws xs rs ms cw cx q).answer ≡ Outside k) (EarlySound ws xs rs ms q × OutsideAt ws xs q k)
+  pub layout-eleven : Exactly ((profiled_layout_result ws xs rs ms cw cx q).answer ≡ Err (Outside k)) (EarlySound ws xs rs ms q × OutsideAt ws xs q k)
   unfolding profiled_layout_result
   layout-eleven =
       record {
@@ -38,7 +36,7 @@ module _ (ws : List ℕ) (xs rs : List Float) (ms cw : List ℕ) (cx : List Floa
   unfolding profiled_relayout_result
   relayout-eleven-leaves es s o = at-eleven (relayout_result ws xs rs ms cw cx es q) rs ms cw cx (early_tested ws xs rs ms q) (profile_spot ws xs q) k ((early_exactly ws xs rs ms q).given s) ((place_is ws xs q k).given o)
 
-  pub relayout-eleven : (es : List ℕ) → Exactly ((profiled_relayout_result ws xs rs ms cw cx es q).answer ≡ Outside k) (EarlySound ws xs rs ms q × OutsideAt ws xs q k)
+  pub relayout-eleven : (es : List ℕ) → Exactly ((profiled_relayout_result ws xs rs ms cw cx es q).answer ≡ Err (Outside k)) (EarlySound ws xs rs ms q × OutsideAt ws xs q k)
   unfolding profiled_relayout_result
   relayout-eleven es =
       record {

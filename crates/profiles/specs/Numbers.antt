@@ -1,7 +1,6 @@
 -- The profile of a node by its 28 numbers, in one run, and that this is of_profile. Assumes nothing.
-use Rattle.std.specs.Prelude.{◌≡◌, refl, Bool, true, false, cond, not, ◌&&◌, ◌||◌, List, ℕ, zero, suc, ◌+◌, ◌<◌, ◌≤◌, eqb, ltb, Float}
+use Rattle.std.specs.Prelude.{◌≡◌, refl, Bool, true, false, cond, not, ◌&&◌, ◌||◌, List, ℕ, zero, suc, ◌+◌, ◌<◌, ◌≤◌, eqb, ltb, Float, is_some}
 use Rattle.std.proofs.Math.Bool.{and_assoc}
-use Rattle.util.specs.Maybe.{is_some}
 use Rattle.length.specs.Length.{is_auto}
 use Rattle.length.specs.declared.Length.{Length}
 use Rattle.style.specs.Codes.{align_at, unit_of, length_of, ratio_of}

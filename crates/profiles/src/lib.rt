@@ -7,10 +7,9 @@ ghost use Rattle.steps.specs.Scan.{first_of, some};
 ghost use Rattle.profile.specs.Profile.{whole_length, whole_option, centers, of_profile, outside, whole_question, profile_spot};
 ghost use Rattle.profiles.specs.Numbers.{Placed, NodeOf, unit_at, as_length, broken, sides_auto, in_numbers};
 
-use length::{Length, is_auto};
-use steps::{LayoutInput, Spot};
+use length::Length;
+use steps::LayoutInput;
 use style::AlignContent;
-use util::OptionF32;
 use whole::is_pixel;
 
 // Auto, or whole pixels.
@@ -25,29 +24,24 @@ fn whole_length(l: Length) -> bool
 }
 
 // Absent, or a whole pixel.
-fn whole_option(o: OptionF32) -> bool
+fn whole_option(o: Option<f32>) -> bool
     ensures { result ≡ whole_option o }
 {
     match o {
-        OptionF32::None => true,
-        OptionF32::Some(x) => is_pixel(x),
+        None => true,
+        Some(x) => is_pixel(x),
     }
 }
 
 // Center, and the two words that act as center.
+#[tactic(auto, unfolding(profile::specs::Profile::centers))]
 fn is_center(a: AlignContent) -> bool
     ensures { result ≡ centers a }
 {
-    match a {
-        AlignContent::Normal => false,
-        AlignContent::Start => false,
-        AlignContent::Center => true,
-        AlignContent::End => false,
-        AlignContent::SpaceBetween => false,
-        AlignContent::SpaceAround => true,
-        AlignContent::SpaceEvenly => true,
-        AlignContent::Stretch => false,
-    }
+    matches!(
+        a,
+        AlignContent::Center | AlignContent::SpaceAround | AlignContent::SpaceEvenly
+    )
 }
 
 // The unit of number f: the ratio has none, and what is no length counts as pixels.
@@ -73,12 +67,10 @@ fn some_broken(u: u32, v: u32, numbers: &[f32], n: usize, i: usize) -> bool
     requires { NodeOf numbers.now n i }
     ensures { result ≡ some (broken u v numbers.now i) 28 }
 {
-    let mut f = 0;
-    while f < style::NUMBERS {
+    for f in 0..style::NUMBERS {
         if !whole_length(length_at(u, v, numbers, n, i, f)) {
             return true;
         }
-        f += 1;
     }
     false
 }
@@ -90,7 +82,7 @@ fn sides_auto(u: u32, v: u32, numbers: &[f32], n: usize, i: usize) -> bool
 {
     let left = length_at(u, v, numbers, n, i, 9);
     let right = length_at(u, v, numbers, n, i, 7);
-    is_auto(left) && is_auto(right)
+    left.is_auto() && right.is_auto()
 }
 
 // The root, or not both side margins auto.
@@ -127,19 +119,17 @@ fn of_profile(words: &[u32], numbers: &[f32], n: usize, i: usize) -> bool
 }
 
 // The lowest node that is not.
-fn first_outside(words: &[u32], numbers: &[f32]) -> Spot
+fn first_outside(words: &[u32], numbers: &[f32]) -> Option<u32>
     requires { Placed words.now numbers.now }
     ensures { result ≡ first_of (outside words.now numbers.now) (nodes_in words.now) }
 {
     let n = words.len() / style::WORDS;
-    let mut i = 0;
-    while i < n {
+    for i in 0..n {
         if !of_profile(words, numbers, n, i) {
-            return Spot::At(i as u32);
+            return Some(i as u32);
         }
-        i += 1;
     }
-    Spot::Nowhere
+    None
 }
 
 fn whole_question(q: LayoutInput) -> bool
@@ -158,15 +148,15 @@ fn whole_question(q: LayoutInput) -> bool
 }
 
 // Nowhere, or the lowest node that is not of the profile, or n where the question alone is not.
-pub fn profile_spot(words: &[u32], numbers: &[f32], q: LayoutInput) -> Spot
+pub fn profile_spot(words: &[u32], numbers: &[f32], q: LayoutInput) -> Option<u32>
     requires { Placed words.now numbers.now }
     ensures { result ≡ profile_spot words.now numbers.now q }
 {
-    if let Spot::At(k) = first_outside(words, numbers) {
-        return Spot::At(k);
+    if let Some(k) = first_outside(words, numbers) {
+        return Some(k);
     }
     if whole_question(q) {
-        return Spot::Nowhere;
+        return None;
     }
-    Spot::At((words.len() / style::WORDS) as u32)
+    Some((words.len() / style::WORDS) as u32)
 }

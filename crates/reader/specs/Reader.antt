@@ -8,14 +8,6 @@ use Rattle.style.specs.Flow.{flow_at, flow_of}
 use Rattle.style.specs.declared.Style.{Style}
 use Rattle.reader.specs.declared.Reader.{Reader}
 
--- its planes are those of these numbers, and its node is one of them
-abbrev pub Reads : Reader → List Float → Type 0
-Reads r xs = (r.plane ≡ plane_of xs) × (r.node < r.plane)
-
--- the reader of the first node of these words, with the numbers of node j
-abbrev pub reader_at : List ℕ → List Float → ℕ → Reader
-reader_at ws xs j = record { style = word_at ws 0 1; first = word_at ws 0 2; second = word_at ws 0 3; plane = plane_of xs; node = j }
-
 -- what it reads
 unfoldable pub style_in : Reader → List Float → Style
 style_in r xs =
@@ -46,11 +38,15 @@ style_in r xs =
           };
     }
 
--- it is the node's style
-pub style_read : (ws : List ℕ) (xs : List Float) (j : ℕ) → style_in (reader_at ws xs j) xs ≡ style_at ws 0 xs j
+-- by its own numbers
+abbrev pub style_of : Reader → Style
+style_of r = style_in r r.numbers.now
+
+-- with the first node's words it is the node's style
+pub style_read : (ws : List ℕ) (xs : List Float) (j : ℕ) (r : Reader) → r.style ≡ word_at ws 0 1 → r.first ≡ word_at ws 0 2 → r.second ≡ word_at ws 0 3 → r.node ≡ j → style_in r xs ≡ style_at ws 0 xs j
 unfolding style_in style_at measure_at
-style_read ws xs j =
-    rw (size_first ws 0 xs j 0 (omega arith), size_first ws 0 xs j 2 (omega arith), size_first ws 0 xs j 4 (omega arith), rect_first ws 0 xs j 6 (omega arith), rect_first ws 0 xs j 10 (omega arith), rect_second ws 0 xs j 0, rect_second ws 0 xs j 4)
+style_read ws xs j r s u v n =
+    rw (s, u, v, n, size_first ws 0 xs j 0 (omega arith), size_first ws 0 xs j 2 (omega arith), size_first ws 0 xs j 4 (omega arith), rect_first ws 0 xs j 6 (omega arith), rect_first ws 0 xs j 10 (omega arith), rect_second ws 0 xs j 0, rect_second ws 0 xs j 4)
 
 -- what the style word alone tells of it
 pub flow_read : (r : Reader) (xs : List Float) → flow_of (style_in r xs) ≡ flow_at r.style

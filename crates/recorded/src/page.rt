@@ -1,20 +1,27 @@
 // The tables of the page: a heading, a row with a badge out of the flow and a mark that is hidden at first, a seal out of the flow, a foot.
-pub const NODES: usize = 8;
+const NODES: usize = 8;
 
 // Nodes, in preorder.
-pub const HEADING: usize = 1;
+#[derive(Clone, Copy)]
+pub enum Node {
+    Page,
+    Heading,
+    Row,
+    Badge,
+    Mark,
+    Value,
+    Seal,
+    Foot,
+}
 
-pub const ROW: usize = 2;
-
-pub const BADGE: usize = 3;
-
-pub const MARK: usize = 4;
-
-pub const VALUE: usize = 5;
-
-pub const SEAL: usize = 6;
-
-pub const FOOT: usize = 7;
+// Fields of a node's numbers.
+#[derive(Clone, Copy)]
+pub enum Field {
+    MarginTop = 6,
+    PaddingTop = 10,
+    PaddingLeft = 13,
+    Height = 26,
+}
 
 // Style words.
 pub const LEAF: u32 = 1;
@@ -23,74 +30,61 @@ pub const HIDDEN: u32 = 2;
 
 pub const OUT: u32 = 32;
 
-// Fields of a node's numbers.
-pub const MARGIN_TOP: usize = 6;
-
-pub const PADDING_TOP: usize = 10;
-
-pub const PADDING_LEFT: usize = 13;
-
-pub const HEIGHT: usize = 26;
-
 // Units: margins, padding and border in pixels, all else auto.
 const UNITS: u32 = 0x0555_5000;
 
 const UNITS_BEYOND: u32 = 0x55;
 
-// Word k of a node; past the tables nothing is written, here and below.
-fn put_word(words: &mut [u32], node: usize, k: usize, v: u32) {
-    if node < NODES {
-        if k < 4 {
-            let at = 4 * node + k;
-            if at < words.len() {
-                words[at] = v;
-            }
-        }
+#[derive(Drop)]
+pub struct Page {
+    pub words: [u32; 32],
+    pub numbers: [f32; 224],
+}
+
+impl Page {
+    pub fn put(&mut self, node: Node, field: Field, v: f32) {
+        let at = style::number_place(NODES, node as usize, field as usize);
+        self.numbers[at] = v;
     }
-}
 
-// Number f of a node.
-pub fn put(numbers: &mut [f32], node: usize, f: usize, v: f32) {
-    if node < NODES {
-        if f < 28 {
-            let at = style::number_place(NODES, node, f);
-            if at < numbers.len() {
-                numbers[at] = v;
-            }
-        }
+    pub fn style(&mut self, node: Node, v: u32) {
+        self.words[4 * (node as usize) + 1] = v;
     }
-}
 
-pub fn style(words: &mut [u32], node: usize, v: u32) {
-    put_word(words, node, 1, v);
-}
+    // A node, its size, its style and its units.
+    fn node(&mut self, node: Node, size: u32, kind: u32) {
+        let at = 4 * (node as usize);
+        self.words[at] = size;
+        self.words[at + 1] = kind;
+        self.words[at + 2] = UNITS;
+        self.words[at + 3] = UNITS_BEYOND;
+    }
 
-fn node(words: &mut [u32], i: usize, size: u32, kind: u32) {
-    put_word(words, i, 0, size);
-    style(words, i, kind);
-    put_word(words, i, 2, UNITS);
-    put_word(words, i, 3, UNITS_BEYOND);
-}
+    // The row, its badge, its mark and its value.
+    fn fill_row(&mut self) {
+        self.node(Node::Row, 4, 0);
+        self.put(Node::Row, Field::MarginTop, 10.0);
+        self.put(Node::Row, Field::PaddingTop, 5.0);
+        self.put(Node::Row, Field::PaddingLeft, 8.0);
+        self.node(Node::Badge, 1, LEAF | OUT);
+        self.node(Node::Mark, 1, HIDDEN);
+        self.node(Node::Value, 1, LEAF);
+        self.put(Node::Value, Field::Height, 30.0);
+    }
 
-// The row, its badge, its mark and its value.
-fn fill_row(words: &mut [u32], numbers: &mut [f32]) {
-    node(words, ROW, 4, 0);
-    put(numbers, ROW, MARGIN_TOP, 10.0);
-    put(numbers, ROW, PADDING_TOP, 5.0);
-    put(numbers, ROW, PADDING_LEFT, 8.0);
-    node(words, BADGE, 1, LEAF | OUT);
-    node(words, MARK, 1, HIDDEN);
-    node(words, VALUE, 1, LEAF);
-    put(numbers, VALUE, HEIGHT, 30.0);
-}
-
-// The whole page, into tables of zeros.
-pub fn fill(words: &mut [u32], numbers: &mut [f32]) {
-    node(words, 0, 8, 0);
-    node(words, HEADING, 1, LEAF);
-    put(numbers, HEADING, HEIGHT, 20.0);
-    fill_row(words, numbers);
-    node(words, SEAL, 1, LEAF | OUT);
-    node(words, FOOT, 1, LEAF);
-    put(numbers, FOOT, HEIGHT, 12.0);
+    // The whole page, over zeros.
+    pub fn new() -> Page {
+        let mut page = Page {
+            words: [0; 32],
+            numbers: [0.0; 224],
+        };
+        page.node(Node::Page, 8, 0);
+        page.node(Node::Heading, 1, LEAF);
+        page.put(Node::Heading, Field::Height, 20.0);
+        page.fill_row();
+        page.node(Node::Seal, 1, LEAF | OUT);
+        page.node(Node::Foot, 1, LEAF);
+        page.put(Node::Foot, Field::Height, 12.0);
+        page
+    }
 }

@@ -1,4 +1,8 @@
 -- A call on cut candidate memory is the call on all of it, where the cut leaves room.
+use Rattle.steps.specs.declared.Refusal.TheVariants.{Room}
+use Rattle.steps.specs.declared.Refusal.{Refusal}
+use Rattle.std.specs.Prelude.{Option, None, Some, Result, Ok, Err, ⊤}
+use Rattle.tree.specs.declared.NodeId.{NodeId}
 use mathlib.Core.Path.{◌≡◌, refl, sym, ap, ◌∙◌}
 use mathlib.Core.Bool.{Bool, true, false}
 use mathlib.Core.List.{List, [], ◌∷◌, ◌++◌, append_assoc}
@@ -16,12 +20,6 @@ use Rattle.steps.specs.Page.{page_of}
 use Rattle.steps.specs.Candidates.{candidates, candidate_words, candidate_numbers, needed}
 use Rattle.steps.specs.Noes.{bad_row, records_in, refuse_if, no5}
 use Rattle.steps.specs.Results.{Reply, rows_out, listed, on_front, accepted, over_limit, replied, tested}
-use Rattle.steps.specs.declared.Answer.{Answer}
-use Rattle.steps.specs.declared.Answer.TheVariants.{Room}
-use Rattle.steps.specs.declared.Tested.{Tested}
-use Rattle.steps.specs.declared.Tested.TheVariants.{Pass, Refuse}
-use Rattle.steps.specs.declared.Found.{Found}
-use Rattle.steps.specs.declared.Found.TheVariants.{Nowhere, At}
 use Rattle.steps.proofs.Listed.{length_listed}
 use Rattle.layout.specs.Public.{Replied}
 
@@ -42,21 +40,21 @@ module _ (m : ℕ) (rs : List Float) (ms cw : List ℕ) (cx : List Float) where
   abbrev pub whole : Reply → Reply
   whole r = record { answer = r.answer; rows = r.rows; marks = r.marks; words = r.words ++ drop (2 * m) cw; numbers = r.numbers ++ drop (3 * m) cx }
 
-  found-whole : (f : Found) (t : Tree Row) → length (candidates t) ≤ m → whole (over_limit f t rs ms (take (2 * m) cw) (take (3 * m) cx)) ≡ over_limit f t rs ms cw cx
+  found-whole : (f : Option NodeId) (t : Tree Row) → length (candidates t) ≤ m → whole (over_limit f t rs ms (take (2 * m) cw) (take (3 * m) cx)) ≡ over_limit f t rs ms cw cx
   unfolding over_limit accepted
-  found-whole (At i) t h = rw (take-append-drop (2 * m) cw, take-append-drop (3 * m) cx)
-  found-whole Nowhere t h =
+  found-whole (Some i) t h = rw (take-append-drop (2 * m) cw, take-append-drop (3 * m) cx)
+  found-whole None t h =
       let p = length_listed candidate_words 2 (λ _. refl) (candidates t) in
       let q = length_listed candidate_numbers 3 (λ _. refl) (candidates t) in
       rw (front_cut (listed candidate_words (candidates t)) (2 * m) cw (omega (arith, p, h)), front_cut (listed candidate_numbers (candidates t)) (3 * m) cx (omega (arith, q, h)))
 
-  pub tested-whole : (T : Tested) (n : ℕ) (t : Tree Row) → (T ≡ Pass → length (candidates t) ≤ m)
+  pub tested-whole : (T : Result ⊤ Refusal) (n : ℕ) (t : Tree Row) → (T ≡ Ok tt → length (candidates t) ≤ m)
       → whole (tested T (replied n t rs ms (take (2 * m) cw) (take (3 * m) cx)) rs ms (take (2 * m) cw) (take (3 * m) cx)) ≡ tested T (replied n t rs ms cw cx) rs ms cw cx
   unfolding tested replied
-  tested-whole Pass n t h = found-whole (lowest (bad_row (rows_out t)) n) t (h refl)
-  tested-whole (Refuse a) n t h = rw (take-append-drop (2 * m) cw, take-append-drop (3 * m) cx)
+  tested-whole (Ok _) n t h = found-whole (lowest (bad_row (rows_out t)) n) t (h refl)
+  tested-whole (Err a) n t h = rw (take-append-drop (2 * m) cw, take-append-drop (3 * m) cx)
 
-  pub replied-whole : (r : Reply) (a : Answer) (rs' : List Float) (ms' cw' : List ℕ) (cx' : List Float) → Replied r a rs' ms' cw' cx' → Replied (whole r) a rs' ms' (cw' ++ drop (2 * m) cw) (cx' ++ drop (3 * m) cx)
+  pub replied-whole : (r : Reply) (a : Result ℕ Refusal) (rs' : List Float) (ms' cw' : List ℕ) (cx' : List Float) → Replied r a rs' ms' cw' cx' → Replied (whole r) a rs' ms' (cw' ++ drop (2 * m) cw) (cx' ++ drop (3 * m) cx)
   replied-whole r a rs' ms' cw' cx' h =
       record {
         answer_is = h.answer_is;
@@ -81,14 +79,14 @@ module _ (ws : List ℕ) (xs : List Float) (cw : List ℕ) (cx : List Float) (k 
       let q = length-take (3 * lent_records) cx in
       omega (arith, p, q)
 
-  pub cut-few : ltb k need ≡ true → no5 ws xs (take (2 * lent_records) cw) (take (3 * lent_records) cx) ≡ Refuse Room
+  pub cut-few : ltb k need ≡ true → no5 ws xs (take (2 * lent_records) cw) (take (3 * lent_records) cx) ≡ Err Room
   unfolding no5
   cut-few e =
       let l = ltb-true k need e in
       let c = cut-records in
       rw (lt-ltb (records_in (take (2 * lent_records) cw) (take (3 * lent_records) cx)) need (omega (arith, l, c)))
 
-  pub none-few : ltb k need ≡ true → no5 ws xs [] [] ≡ Refuse Room
+  pub none-few : ltb k need ≡ true → no5 ws xs [] [] ≡ Err Room
   unfolding no5
   none-few e =
       let l = ltb-true k need e in

@@ -1,5 +1,4 @@
 pub mod Run
-pub mod Refusals
 pub mod Few
 pub mod Cut
 pub mod Decode

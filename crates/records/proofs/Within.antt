@@ -1,4 +1,7 @@
 -- A call on memory cut to the records lent replies what `layout_within` and `relayout_within` say.
+use Rattle.std.specs.Prelude.{Result, Ok, Err, ⊤}
+use Rattle.steps.specs.declared.Refusal.TheVariants.{Lengths, Room}
+use Rattle.steps.specs.declared.Refusal.{Refusal}
 use mathlib.Core.Path.{◌≡◌, refl, ◌∙◌}
 use mathlib.Core.Bool.{Bool, true, false, cond, ◌||◌}
 use mathlib.Core.List.{List, [], ◌++◌}
@@ -16,10 +19,6 @@ use Rattle.steps.specs.Candidates.{candidates, needed}
 use Rattle.steps.specs.Noes.{bad_tables, bad_rows, refuse_if, and_then, no5, page_tested, layout_tested, relayout_tested}
 use Rattle.steps.specs.Results.{Reply, replied, tested, layout_result, relayout_result}
 use Rattle.steps.specs.declared.LayoutInput.{LayoutInput}
-use Rattle.steps.specs.declared.Answer.{Answer}
-use Rattle.steps.specs.declared.Answer.TheVariants.{Lengths, Room}
-use Rattle.steps.specs.declared.Tested.{Tested}
-use Rattle.steps.specs.declared.Tested.TheVariants.{Pass, Refuse}
 use Rattle.layout.specs.Public.{Replied}
 use Rattle.layout.proofs.Accepted.{passes, again_passes}
 use Rattle.records.specs.Results.{as_lent, within, layout_within, relayout_within}
@@ -28,27 +27,27 @@ use Rattle.records.proofs.Cut.{whole, tested-whole, replied-whole, lent_records,
 
 -- ---- tests that end in a refusal
 -- what they answer: the first no, else the last
-pub record Ends (t : Tested) : Type 0 where
-  pub with : Answer
-  pub is : t ≡ Refuse with
+pub record Ends (t : Result ⊤ Refusal) : Type 0 where
+  pub with : Refusal
+  pub is : t ≡ Err with
 
-ends_then : (t u : Tested) → Ends u → Ends (and_then t u)
+ends_then : (t u : Result ⊤ Refusal) → Ends u → Ends (and_then t u)
 unfolding and_then
-ends_then Pass u e = e
-ends_then (Refuse a) u e = record { with = a; is = refl }
+ends_then (Ok _) u e = e
+ends_then (Err a) u e = record { with = a; is = refl }
 
 -- the first of 1 to 4 that is due, and else 5
-abbrev pub at_most5 : List ℕ → List Float → List Float → List ℕ → LayoutInput → Tested
-at_most5 ws xs rs ms q = and_then (refuse_if (bad_tables ws xs || bad_rows ws rs ms) Lengths) (and_then (page_tested ws xs q) (Refuse Room))
+abbrev pub at_most5 : List ℕ → List Float → List Float → List ℕ → LayoutInput → Result ⊤ Refusal
+at_most5 ws xs rs ms q = and_then (refuse_if (bad_tables ws xs || bad_rows ws rs ms) Lengths) (and_then (page_tested ws xs q) (Err Room))
 
 pub at_most_5 : (ws : List ℕ) (xs rs : List Float) (ms : List ℕ) (q : LayoutInput) → Ends (at_most5 ws xs rs ms q)
 at_most_5 ws xs rs ms q = ends_then _ _ (ends_then _ _ (record { with = Room; is = refl }))
 
-pub layout_no_room : (ws : List ℕ) (xs rs : List Float) (ms cw : List ℕ) (cx : List Float) (q : LayoutInput) → no5 ws xs cw cx ≡ Refuse Room → layout_tested ws xs rs ms cw cx q ≡ at_most5 ws xs rs ms q
+pub layout_no_room : (ws : List ℕ) (xs rs : List Float) (ms cw : List ℕ) (cx : List Float) (q : LayoutInput) → no5 ws xs cw cx ≡ Err Room → layout_tested ws xs rs ms cw cx q ≡ at_most5 ws xs rs ms q
 unfolding layout_tested
 layout_no_room ws xs rs ms cw cx q e = rw e
 
-pub relayout_no_room : (ws : List ℕ) (xs rs : List Float) (ms cw : List ℕ) (cx : List Float) (es : List ℕ) (q : LayoutInput) → no5 ws xs cw cx ≡ Refuse Room → relayout_tested ws xs rs ms cw cx es q ≡ at_most5 ws xs rs ms q
+pub relayout_no_room : (ws : List ℕ) (xs rs : List Float) (ms cw : List ℕ) (cx : List Float) (es : List ℕ) (q : LayoutInput) → no5 ws xs cw cx ≡ Err Room → relayout_tested ws xs rs ms cw cx es q ≡ at_most5 ws xs rs ms q
 unfolding relayout_tested and_then
 relayout_no_room ws xs rs ms cw cx es q e = rw (layout_no_room ws xs rs ms cw cx q e, (at_most_5 ws xs rs ms q).is)
 
@@ -62,19 +61,19 @@ unfolding relayout_tested
 relayout_by_room ws xs rs ms cw cw' cx cx' es q e = rw (layout_by_room ws xs rs ms cw cw' cx cx' q e)
 
 -- ---- one call, with its tests on all of memory, on the cut, and on none
-module _ (ws : List ℕ) (xs rs : List Float) (ms cw : List ℕ) (cx : List Float) (k : ℕ) (T cut none : Tested) (n : ℕ) (t : Tree Row) (r : Reply) where
+module _ (ws : List ℕ) (xs rs : List Float) (ms cw : List ℕ) (cx : List Float) (k : ℕ) (T cut none : Result ⊤ Refusal) (n : ℕ) (t : Tree Row) (r : Reply) where
   abbrev need : ℕ
   need = needed (page_of ws xs [])
 
   abbrev m : ℕ
   m = lent_records ws xs cw cx k
 
-  refused-whole : (r' : Reply) (a : Answer) → cut ≡ Refuse a → none ≡ Refuse a
+  refused-whole : (r' : Reply) (a : Refusal) → cut ≡ Err a → none ≡ Err a
       → whole m rs ms cw cx (tested cut r' rs ms (take (2 * m) cw) (take (3 * m) cx)) ≡ as_lent (tested none r rs ms [] []).answer rs ms cw cx
   unfolding tested
   refused-whole r' a e f = rw (e, f, take-append-drop (2 * m) cw, take-append-drop (3 * m) cx)
 
-  call-whole : (ltb k need ≡ true → (a : Answer) × ((cut ≡ Refuse a) × (none ≡ Refuse a))) → (ltb k need ≡ false → cut ≡ T) → (T ≡ Pass → need ≤ min (length cw / 2) (length cx / 3)) → length (candidates t) ≤ need
+  call-whole : (ltb k need ≡ true → (a : Refusal) × ((cut ≡ Err a) × (none ≡ Err a))) → (ltb k need ≡ false → cut ≡ T) → (T ≡ Ok tt → need ≤ min (length cw / 2) (length cx / 3)) → length (candidates t) ≤ need
       → whole m rs ms cw cx (tested cut (replied n t rs ms (take (2 * m) cw) (take (3 * m) cx)) rs ms (take (2 * m) cw) (take (3 * m) cx))
       ≡ within k need (tested none r rs ms [] []).answer (tested T (replied n t rs ms cw cx) rs ms cw cx) rs ms cw cx
   unfolding within
@@ -96,7 +95,7 @@ module _ (ws : List ℕ) (xs rs : List Float) (ms cw : List ℕ) (cx : List Floa
   abbrev cut_numbers : List Float
   cut_numbers = take (3 * lent_records ws xs cw cx k) cx
 
-  pub layout-cut : (q : LayoutInput) (a : Answer) (rs' : List Float) (ms' cw' : List ℕ) (cx' : List Float) → Replied (layout_result ws xs rs ms cut_words cut_numbers q) a rs' ms' cw' cx'
+  pub layout-cut : (q : LayoutInput) (a : Result ℕ Refusal) (rs' : List Float) (ms' cw' : List ℕ) (cx' : List Float) → Replied (layout_result ws xs rs ms cut_words cut_numbers q) a rs' ms' cw' cx'
       → Replied (layout_within ws xs rs ms cw cx k q) a rs' ms' (cw' ++ drop (2 * lent_records ws xs cw cx k) cw) (cx' ++ drop (3 * lent_records ws xs cw cx k) cx)
   unfolding layout_result layout_within
   layout-cut q a rs' ms' cw' cx' h =
@@ -107,7 +106,7 @@ module _ (ws : List ℕ) (xs rs : List Float) (ms cw : List ℕ) (cx : List Floa
       (λ b. layout_by_room ws xs rs ms cut_words cw cut_numbers cx q (cut-enough ws xs cw cx k b)) (λ p. (passes ws xs rs ms cw cx q p).room) (few_fresh ws xs q) in
       rw e at (replied-whole (lent_records ws xs cw cx k) rs ms cw cx _ a rs' ms' cw' cx' h)
 
-  pub relayout-cut : (es : List ℕ) (q : LayoutInput) (a : Answer) (rs' : List Float) (ms' cw' : List ℕ) (cx' : List Float) → Replied (relayout_result ws xs rs ms cut_words cut_numbers es q) a rs' ms' cw' cx'
+  pub relayout-cut : (es : List ℕ) (q : LayoutInput) (a : Result ℕ Refusal) (rs' : List Float) (ms' cw' : List ℕ) (cx' : List Float) → Replied (relayout_result ws xs rs ms cut_words cut_numbers es q) a rs' ms' cw' cx'
       → Replied (relayout_within ws xs rs ms cw cx k es q) a rs' ms' (cw' ++ drop (2 * lent_records ws xs cw cx k) cw) (cx' ++ drop (3 * lent_records ws xs cw cx k) cx)
   unfolding relayout_result relayout_within
   relayout-cut es q a rs' ms' cw' cx' h =
@@ -119,10 +118,10 @@ module _ (ws : List ℕ) (xs rs : List Float) (ms cw : List ℕ) (cx : List Floa
       rw e at (replied-whole (lent_records ws xs cw cx k) rs ms cw cx _ a rs' ms' cw' cx' h)
 
   -- the same at a count that code has worked out
-  pub layout-cut-at : (m : ℕ) → m ≡ lent_records ws xs cw cx k → (q : LayoutInput) (a : Answer) (rs' : List Float) (ms' cw' : List ℕ) (cx' : List Float) → Replied (layout_result ws xs rs ms (take (2 * m) cw) (take (3 * m) cx) q) a rs' ms' cw' cx'
+  pub layout-cut-at : (m : ℕ) → m ≡ lent_records ws xs cw cx k → (q : LayoutInput) (a : Result ℕ Refusal) (rs' : List Float) (ms' cw' : List ℕ) (cx' : List Float) → Replied (layout_result ws xs rs ms (take (2 * m) cw) (take (3 * m) cx) q) a rs' ms' cw' cx'
       → Replied (layout_within ws xs rs ms cw cx k q) a rs' ms' (cw' ++ drop (2 * m) cw) (cx' ++ drop (3 * m) cx)
   layout-cut-at m e q a rs' ms' cw' cx' h = rw e (layout-cut q a rs' ms' cw' cx' (rw e at h))
 
-  pub relayout-cut-at : (m : ℕ) → m ≡ lent_records ws xs cw cx k → (es : List ℕ) (q : LayoutInput) (a : Answer) (rs' : List Float) (ms' cw' : List ℕ) (cx' : List Float) → Replied (relayout_result ws xs rs ms (take (2 * m) cw) (take (3 * m) cx) es q) a rs' ms' cw' cx'
+  pub relayout-cut-at : (m : ℕ) → m ≡ lent_records ws xs cw cx k → (es : List ℕ) (q : LayoutInput) (a : Result ℕ Refusal) (rs' : List Float) (ms' cw' : List ℕ) (cx' : List Float) → Replied (relayout_result ws xs rs ms (take (2 * m) cw) (take (3 * m) cx) es q) a rs' ms' cw' cx'
       → Replied (relayout_within ws xs rs ms cw cx k es q) a rs' ms' (cw' ++ drop (2 * m) cw) (cx' ++ drop (3 * m) cx)
   relayout-cut-at m e es q a rs' ms' cw' cx' h = rw e (relayout-cut es q a rs' ms' cw' cx' (rw e at h))

@@ -1,9 +1,8 @@
 -- Candidates as records.
-use Rattle.std.specs.Prelude.{cond, List, [], ◌∷◌, ◌++◌, ℕ, zero, suc, ◌+◌, ◌*◌, get_or, eqb, Float}
+use Rattle.steps.specs.declared.Refusal.{Refusal}
+use Rattle.std.specs.Prelude.{List, [], ◌∷◌, ◌++◌, ℕ, zero, suc, ◌+◌, ◌*◌, get_or, Float, Result, Ok, Err}
 use Rattle.geometry.specs.Geometry.{zero_f}
 use Rattle.steps.specs.Candidates.{Candidate}
-use Rattle.steps.specs.Noes.{paper}
-use Rattle.steps.specs.declared.Answer.{Answer}
 use Rattle.records.specs.declared.Record.{Record}
 
 -- a candidate's five fields, its two counts as two types
@@ -27,9 +26,11 @@ records_from ws xs zero = []
 records_from ws xs (suc n) = records_from ws xs n ++ (record_at ws xs n ∷ [])
 
 -- how many records an answer comes with: as many as it says where it is 0, none with a refusal
-unfoldable pub count_of : Answer → ℕ
-count_of a = cond (eqb (paper a).0 0) (paper a).1 0
+unfoldable pub count_of : Result ℕ Refusal → ℕ
+count_of (Ok n) = n
+count_of (Err a) = 0
 
 -- the records that an answer comes with
-unfoldable pub given_with : Answer → List Record → List Record
-given_with a l = cond (eqb (paper a).0 0) l []
+unfoldable pub given_with : Result ℕ Refusal → List Record → List Record
+given_with (Ok n) l = l
+given_with (Err a) l = []

@@ -1,11 +1,11 @@
 -- The whole result of a layout and of a relayout over records, for any lent input.
-use Rattle.std.specs.Prelude.{◌≡◌, cond, List, [], map, ℕ, length, ltb, Float}
+use Rattle.steps.specs.declared.Refusal.{Refusal}
+use Rattle.std.specs.Prelude.{◌≡◌, cond, List, [], map, ℕ, length, ltb, Float, Result}
 use Rattle.steps.specs.Page.{page_of, cells_of}
 use Rattle.steps.specs.Layout.{relaid, fresh}
 use Rattle.steps.specs.Candidates.{Candidate, candidates, needed}
 use Rattle.steps.specs.Results.{Reply, on_front, layout_result, relayout_result}
 use Rattle.steps.specs.declared.LayoutInput.{LayoutInput}
-use Rattle.steps.specs.declared.Answer.{Answer}
 use Rattle.layout.specs.Public.{Replied}
 use Rattle.records.specs.Records.{record_of, given_with}
 use Rattle.records.specs.declared.Record.{Record}
@@ -16,11 +16,11 @@ pub record RecordsReply : Type 0 where
   pub records : List Record
 
 -- an answer with memory as it came
-abbrev pub as_lent : Answer → List Float → List ℕ → List ℕ → List Float → Reply
+abbrev pub as_lent : Result ℕ Refusal → List Float → List ℕ → List ℕ → List Float → Reply
 as_lent a rs ms cw cx = record { answer = a; rows = rs; marks = ms; words = cw; numbers = cx }
 
 -- the plain reply of a call that is lent k records too: with fewer than needed, the answer that no room at all gives, which is 5 or an earlier no, and all as lent
-unfoldable pub within : ℕ → ℕ → Answer → Reply → List Float → List ℕ → List ℕ → List Float → Reply
+unfoldable pub within : ℕ → ℕ → Result ℕ Refusal → Reply → List Float → List ℕ → List ℕ → List Float → Reply
 within k need noRoom r rs ms cw cx = cond (ltb k need) (as_lent noRoom rs ms cw cx) r
 
 -- the plain reply of a layout that is lent k records too
@@ -48,6 +48,6 @@ relayout_records_result ws xs rs ms cw cx lent es q =
     with_records (relayout_within ws xs rs ms cw cx (length lent) es q) (candidates (relaid (cells_of ws xs rs ms es) q).rows) lent
 
 -- what the public calls promise: the answer and every word of lent memory are the definition's
-pub record RecordsReplied (want : RecordsReply) (answer : Answer) (rows : List Float) (marks : List ℕ) (pairs : List ℕ) (triples : List Float) (records : List Record) : Type 0 where
+pub record RecordsReplied (want : RecordsReply) (answer : Result ℕ Refusal) (rows : List Float) (marks : List ℕ) (pairs : List ℕ) (triples : List Float) (records : List Record) : Type 0 where
   pub plain_is : Replied want.plain answer rows marks pairs triples
   pub records_are : records ≡ want.records

@@ -9,7 +9,7 @@ ghost use Rattle.records.specs.Records.{record_at, records_from, count_of};
 ghost use Rattle.records.specs.Results.{layout_within, relayout_within, RecordsReplied, layout_records_result, relayout_records_result};
 
 use lent::{number_at, smaller, word_at};
-use steps::{Answer, Question};
+use steps::{Question, Refusal};
 use tree::{NodeId, Order};
 
 // One candidate. Its node and its order are two counts, and so two types.
@@ -41,21 +41,19 @@ fn store_records(out: &mut [Record], pairs: &[u32], triples: &[f32], n: usize)
     requires { n ≤ length out.old }
     ensures { out.new ≡ records_from pairs.now triples.now n ++ drop n out.old }
 {
-    let mut k = 0usize;
-    while k < n {
+    for k in 0..n {
         out[k] = record_at(pairs, triples, k);
-        k += 1;
     }
 }
 
 // How many records an answer comes with: none with a refusal.
-fn count_of(a: Answer) -> usize
+#[tactic(auto, unfolding(crate::specs::Records::count_of))]
+fn count_of(a: Result<u32, Refusal>) -> usize
     ensures { result ≡ count_of a }
 {
-    if let Answer::Done(n) = a {
-        n as usize
-    } else {
-        0
+    match a {
+        Ok(n) => n as usize,
+        Err(_) => 0,
     }
 }
 
@@ -69,7 +67,7 @@ fn layout_within(
     triples: &mut [f32],
     k: usize,
     q: Question,
-) -> Answer
+) -> Result<u32, Refusal>
     ensures { Replied (layout_within words.now numbers.now rows.old marks.old pairs.old triples.old k (root_input q)) result rows.new marks.new pairs.new triples.new }
 {
     let m = smaller(k, smaller(pairs.len() / 2, triples.len() / 3));
@@ -97,7 +95,7 @@ fn relayout_within(
     k: usize,
     edits: &[u32],
     q: Question,
-) -> Answer
+) -> Result<u32, Refusal>
     ensures { Replied (relayout_within words.now numbers.now rows.old marks.old pairs.old triples.old k edits.now (root_input q)) result rows.new marks.new pairs.new triples.new }
 {
     let m = smaller(k, smaller(pairs.len() / 2, triples.len() / 3));
@@ -125,7 +123,7 @@ pub fn layout_records(
     triples: &mut [f32],
     records: &mut [Record],
     q: Question,
-) -> Answer
+) -> Result<u32, Refusal>
     ensures { RecordsReplied (layout_records_result words.now numbers.now rows.old marks.old pairs.old triples.old records.old (root_input q)) result rows.new marks.new pairs.new triples.new records.new }
 {
     let a = layout_within(
@@ -153,7 +151,7 @@ pub fn relayout_records(
     records: &mut [Record],
     edits: &[u32],
     q: Question,
-) -> Answer
+) -> Result<u32, Refusal>
     ensures { RecordsReplied (relayout_records_result words.now numbers.now rows.old marks.old pairs.old triples.old records.old edits.now (root_input q)) result rows.new marks.new pairs.new triples.new records.new }
 {
     let a = relayout_within(

@@ -1,22 +1,19 @@
 -- Events done one after the other, and their answers printed. Assumes nothing.
+use Rattle.std.specs.Prelude.{None, Some}
 use mathlib.Core.Path.{◌≡◌, refl, sym, ◌∙◌, ap}
 use mathlib.Core.List.{List, [], ◌∷◌, ◌++◌, append-nil, append_assoc}
 use Prim.Native.Nat.{ℕ, ◌+◌, ◌-◌, ◌<◌, ◌≤◌}
-use native.Mathlib.Omega.{arith}
 use lib.ListN.{length, take, drop, drop_of_length-le}
 use Rattle.steps.specs.Noes.{paper}
-use Rattle.steps.specs.declared.Answer.{Answer}
 use Rattle.text.specs.Pieces.{lines_of, Ends}
 use Rattle.text.specs.Laws.{no_lines}
-use Rattle.print.specs.Pen.{Pen, pen, put_all}
+use Rattle.print.specs.Pen.{Pen, put_all}
 use Rattle.print.specs.Text.{answer_text, each}
 use Rattle.print.proofs.PenLaws.{then}
 use Rattle.rowtext.specs.RowText.{row_line}
 use Rattle.day.specs.Day.{Day, Outcome, event_result, day_after, answers_of}
 use Rattle.day.specs.declared.Event.{Event}
 use Rattle.trace.specs.Event.{event_line, event_of, events_of}
-use Rattle.trace.specs.declared.EventLine.{EventLine}
-use Rattle.trace.specs.declared.EventLine.TheVariants.{Bad, Is}
 use Rattle.trace.proofs.Lines.{lines_at}
 use Rattle.replays.specs.Output.{answers_text, day_text, RunOf}
 
@@ -58,11 +55,11 @@ ran_then es fs d d1 d2 p p1 p2 r s =
 
 -- a line that is no event, and one that is
 module _ (n : ℕ) (l : List ℕ) where
-  pub line-none : event_line n l ≡ Bad → event_of (event_line n l) ≡ []
+  pub line-none : event_line n l ≡ None → event_of (event_line n l) ≡ []
   unfolding event_of
   line-none e = rw e
 
-  pub line-one : (x : Event) → event_line n l ≡ Is x → event_of (event_line n l) ≡ x ∷ []
+  pub line-one : (x : Event) → event_line n l ≡ Some x → event_of (event_line n l) ≡ x ∷ []
   unfolding event_of
   line-one x e = rw e
 

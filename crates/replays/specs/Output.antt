@@ -1,12 +1,11 @@
 -- From the bytes of a trace file to the bytes of its answers and last rows.
-use Rattle.std.specs.Prelude.{◌≡◌, List, [], ◌∷◌, ◌++◌, ℕ, ◌*◌, ◌≤◌, length, take, replicate, Float}
+use Rattle.page.specs.declared.PageError.TheVariants.{BadLine}
+use Rattle.page.specs.declared.PageError.{PageError}
+use Rattle.steps.specs.declared.Refusal.{Refusal}
+use Rattle.std.specs.Prelude.{◌≡◌, List, [], ◌∷◌, ◌++◌, ℕ, ◌*◌, ◌≤◌, length, take, replicate, Float, Result, Err, Ok}
 use Rattle.geometry.specs.Geometry.{zero_f}
 use Rattle.steps.specs.Noes.{paper}
-use Rattle.steps.specs.declared.Answer.{Answer}
-use Rattle.page.specs.File.{Read}
 use Rattle.page.specs.declared.Head.{Head}
-use Rattle.page.specs.declared.PageFile.{PageFile}
-use Rattle.page.specs.declared.PageFile.TheVariants.{BadLine, Page}
 use Rattle.print.specs.Pen.{Pen, put_all}
 use Rattle.print.specs.Text.{answer_text, bad_text, each}
 use Rattle.rowtext.specs.RowText.{row_line}
@@ -20,7 +19,7 @@ abbrev pub fields : ℕ
 fields = 28
 
 -- a line for each answer: number and place
-unfoldable pub answers_text : List Answer → List ℕ
+unfoldable pub answers_text : List (Result ℕ Refusal) → List ℕ
 answers_text [] = []
 answers_text (a ∷ l) = answer_text (paper a).0 (paper a).1 ++ answers_text l
 
@@ -40,9 +39,9 @@ start_of h ws xs =
       triples = replicate (3 * h.count) zero_f;
     }
 
-unfoldable pub file_text : List ℕ → PageFile → List ℕ → List Float → List ℕ
-file_text s (BadLine k) ws xs = bad_text k
-file_text s (Page h) ws xs = day_text h.count (trace_events h.count s) (start_of h ws xs)
+unfoldable pub file_text : List ℕ → Result Head PageError → List ℕ → List Float → List ℕ
+file_text s (Err (BadLine k)) ws xs = bad_text k
+file_text s (Ok h) ws xs = day_text h.count (trace_events h.count s) (start_of h ws xs)
 
 -- every byte string: a bad line, or the answers and the rows. Tables for 512 nodes; the numbers have room for 32 a node.
 unfoldable pub replay_text : List ℕ → List ℕ

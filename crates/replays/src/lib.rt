@@ -14,8 +14,7 @@ ghost use Rattle.replays.specs.Output.{day_text, start_of, Fits, Lent, replay_te
 
 use crate::run::run;
 use day::State;
-use lent::smaller;
-use page::{Head, PageFile};
+use page::Head;
 use rowtext::put_rows;
 use steps::Question;
 
@@ -47,7 +46,7 @@ fn replay_cut(
     requires short { length lines.now ≤ 524287 }
     ensures { pen out.new result ≡ put_all (day_text n (events_of n (drop 1 (lines_of lines.now))) (day (record { question = question; count = 0 }) words.old numbers.old rows.old marks.old pairs.old triples.old list.old)) (pen out.old 0) }
 {
-    let e = text::piece_end(lines, 10, 0);
+    let e = text::piece_end(lines, b'\n', 0);
     let state = State { question, count: 0 };
     let r = run(
         lines,
@@ -160,7 +159,7 @@ fn replay_part(
     requires { Fits h.count words.old numbers.old }
     ensures { pen out.new result ≡ put_all (day_text h.count (trace_events h.count text.now) (start_of h words.old numbers.old)) (pen out.old 0) }
 {
-    let end = smaller(text.len(), 524287);
+    let end = text.len().min(524287);
     replay_text(&text[..end], h, words, numbers, out)
 }
 
@@ -170,9 +169,8 @@ pub fn replay_output(text: &[u8], out: &mut [u8]) -> usize
 {
     let mut words = [0u32; 2048];
     let mut numbers = [0.0f32; 16384];
-    let file = trace::read_trace(text, &mut words, &mut numbers);
-    match file {
-        PageFile::BadLine(k) => print::print_bad(out, k),
-        PageFile::Page(h) => replay_part(text, h, &mut words, &mut numbers, out),
+    match trace::read_trace(text, &mut words, &mut numbers) {
+        Err(bad) => pages::print_error(out, bad),
+        Ok(h) => replay_part(text, h, &mut words, &mut numbers, out),
     }
 }

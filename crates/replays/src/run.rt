@@ -8,7 +8,6 @@ ghost use Rattle.replays.specs.Output.{RunOf};
 
 use crate::Ran;
 use steps::{number_of, place_of};
-use trace::EventLine;
 
 // One line: its event is done, and its answer printed.
 fn run_line(
@@ -26,10 +25,9 @@ fn run_line(
 ) -> Ran
     ensures { RunOf (event_of (event_line n l.now)) (day r.state words.old numbers.old rows.old marks.old pairs.old triples.old list.old) (pen out.old r.at) (day result.state words.new numbers.new rows.new marks.new pairs.new triples.new list.new) (pen out.new result.at) }
 {
-    let e = trace::event_line(l, n);
-    match e {
-        EventLine::Bad => r,
-        EventLine::Is(e) => {
+    match trace::event_line(l, n) {
+        None => r,
+        Some(e) => {
             let s = r.state;
             let t = day::step(e, s, words, numbers, rows, marks, pairs, triples, list);
             let answer = t.answer;
@@ -60,8 +58,9 @@ pub fn run(
 {
     let mut i = from;
     let mut r = start;
+    // No `for` over `split`: it has a piece behind the last newline, and that is no line.
     while i < text.len() {
-        let e = text::piece_end(text, 10, i);
+        let e = text::piece_end(text, b'\n', i);
         r = run_line(
             &text[i..e],
             n,

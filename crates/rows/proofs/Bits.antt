@@ -1,4 +1,5 @@
 -- Arithmetic of a row's bits, and flags that agree.
+use Rattle.std.specs.Prelude.{is_some}
 use mathlib.Core.Path.{◌≡◌, refl, sym, ap, ◌∙◌}
 use mathlib.Core.Bool.{Bool, true, false, not, beq}
 use mathlib.Core.List.{List, [], ◌∷◌, ◌++◌}
@@ -9,7 +10,6 @@ use Rattle.geometry.specs.Geometry.{zero_f}
 use Rattle.margin.specs.Margin.{no_margins}
 use native.Mathlib.Omega.{arith}
 use Rattle.length.specs.declared.AvailableSpace.{AvailableSpace}
-use Rattle.util.specs.Maybe.{is_some}
 use Rattle.steps.specs.Row.{Row, row_numbers, row_words, bare, aside_row, hidden_row, bit, available_kind, with_code, probe_code}
 use Rattle.rows.specs.Store.{unlaid, probe_bits}
 use Rattle.steps.specs.declared.ProbeInput.{ProbeInput}

@@ -1,10 +1,9 @@
 // Result rows in lent memory: 16 numbers and two words a node.
 #![tactic(auto)]
 
-ghost use Rattle.std.specs.Prelude.{◌≡◌, cond, ◌&&◌, ◌++◌, ◌+◌, ◌-◌, ◌*◌, ◌/◌, ◌%◌, ◌≤◌, ◌<◌, length, replicate};
+ghost use Rattle.std.specs.Prelude.{◌≡◌, cond, ◌&&◌, ◌++◌, ◌+◌, ◌-◌, ◌*◌, ◌/◌, ◌%◌, ◌≤◌, ◌<◌, length, replicate, None, Some};
 ghost use Rattle.std.specs.Bool.{beq};
 ghost use Rattle.geometry.specs.Geometry.{zero_f};
-ghost use Rattle.util.specs.declared.OptionF32.TheVariants.{None, Some};
 ghost use Rattle.steps.specs.Row.{Row, bit, row_numbers, row_words, laid_row, put_at, aside_row, hidden_row, output_in, probe_of, available_kind, probe_code, with_code};
 ghost use Rattle.steps.specs.Kept.{final_stands, laid_bits};
 ghost use Rattle.steps.specs.Probe.{probe_stands};
@@ -16,7 +15,6 @@ use length::AvailableSpace;
 use margin::CollapsibleMarginSet;
 use steps::{LayoutInput, LayoutOutput, ProbeInput};
 use tree::Order;
-use util::OptionF32;
 
 pub fn one(b: bool) -> u32
     ensures is { result ≡ bit b }
@@ -28,21 +26,13 @@ pub fn one(b: bool) -> u32
 pub fn clear(rows: &mut [f32])
     ensures { rows.new ≡ replicate (length rows.old) zero_f }
 {
-    let mut i = 0usize;
-    while i < rows.len() {
-        rows[i] = 0.0;
-        i += 1;
-    }
+    rows.fill(0.0);
 }
 
 pub fn clear_marks(marks: &mut [u32])
     ensures { marks.new ≡ replicate (length marks.old) 0 }
 {
-    let mut i = 0usize;
-    while i < marks.len() {
-        marks[i] = 0;
-        i += 1;
-    }
+    marks.fill(0);
 }
 
 // The bits of a laid row: the old probe bits stay.
@@ -85,11 +75,11 @@ pub fn put_head(rows: &mut [f32], marks: &mut [u32], q: LayoutInput, o: LayoutOu
     rows[5] = top.negative;
     rows[6] = bottom.positive;
     rows[7] = bottom.negative;
-    rows[8] = kw.or_zero();
-    rows[9] = kh.or_zero();
-    rows[10] = parent.or_zero();
-    rows[14] = basis.or_zero();
-    rows[15] = baseline.or_zero();
+    rows[8] = kw.unwrap_or(0.0);
+    rows[9] = kh.unwrap_or(0.0);
+    rows[10] = parent.unwrap_or(0.0);
+    rows[14] = basis.unwrap_or(0.0);
+    rows[15] = baseline.unwrap_or(0.0);
     marks[0] = 0;
     marks[1] = head_bits(
         marks[1],
@@ -100,7 +90,7 @@ pub fn put_head(rows: &mut [f32], marks: &mut [u32], q: LayoutInput, o: LayoutOu
     );
 }
 
-pub fn put_place(rows: &mut [f32], marks: &mut [u32], p: Point, order: Order)
+pub fn put_place(rows: &mut [f32], marks: &mut [u32], p: Point<f32>, order: Order)
     requires { OneRow rows.old marks.old }
     ensures { Becomes rows.old marks.old rows.new marks.new (put_at p order.0) }
 {
@@ -136,14 +126,10 @@ pub fn put_hidden(rows: &mut [f32], marks: &mut [u32], order: Order)
 }
 
 // A number that bit 9 says is there.
-fn given(b: bool, x: f32) -> OptionF32
+fn given(b: bool, x: f32) -> Option<f32>
     ensures { result ≡ cond b (Some x) None }
 {
-    if b {
-        OptionF32::Some(x)
-    } else {
-        OptionF32::None
-    }
+    if b { Some(x) } else { None }
 }
 
 // The answer that a laid row holds.
@@ -198,8 +184,8 @@ pub fn note_probe(rows: &mut [f32], marks: &mut [u32], q: ProbeInput, answer: f3
 {
     let available = q.available;
     let height = q.height;
-    rows[11] = available.into_option().or_zero();
-    rows[12] = height.or_zero();
+    rows[11] = available.into_option().unwrap_or(0.0);
+    rows[12] = height.unwrap_or(0.0);
     rows[13] = answer;
     marks[1] = probe_bits(marks[1], available, height.is_some());
 }
@@ -215,15 +201,13 @@ pub fn clear_probes(rows: &mut [f32], marks: &mut [u32])
     requires { Whole rows.old marks.old }
     ensures { AllBecome rows.old marks.old rows.new marks.new cleared_row }
 {
-    let mut i = 0usize;
-    while style::MARKS * i < marks.len() {
+    for i in 0..marks.len() / style::MARKS {
         let k = style::ROW * i + 11;
         let m = style::MARKS * i + 1;
         rows[k] = 0.0;
         rows[k + 1] = 0.0;
         rows[k + 2] = 0.0;
         marks[m] = clear_bits(marks[m]);
-        i += 1;
     }
 }
 
@@ -240,13 +224,10 @@ fn in_run(e: usize, base: usize, n: usize) -> bool
 pub fn any_edit(edits: &[u32], base: usize, n: usize) -> bool
     ensures { result ≡ touched edits.now base n }
 {
-    let mut i = 0usize;
-    while i < edits.len() {
-        let e = edits[i] as usize;
-        if in_run(e, base, n) {
+    for &e in edits {
+        if in_run(e as usize, base, n) {
             return true;
         }
-        i += 1;
     }
     false
 }
@@ -269,11 +250,11 @@ pub fn final_stands(rows: &[f32], marks: &[u32], q: LayoutInput) -> bool
     let basis = q.basis;
     let bits = marks[1];
     style::flag(bits, steps::LAID)
-        && (limits::same_bits(rows[8], kw.or_zero())
-            && (limits::same_bits(rows[9], kh.or_zero())
+        && (limits::same_bits(rows[8], kw.unwrap_or(0.0))
+            && (limits::same_bits(rows[9], kh.unwrap_or(0.0))
                 && (same_flag(style::flag(bits, steps::HEIGHT_GIVEN), kh.is_some())
-                    && (limits::same_bits(rows[10], parent.or_zero())
-                        && (limits::same_bits(rows[14], basis.or_zero())
+                    && (limits::same_bits(rows[10], parent.unwrap_or(0.0))
+                        && (limits::same_bits(rows[14], basis.unwrap_or(0.0))
                             && same_flag(
                                 style::flag(bits, steps::BASIS_GIVEN),
                                 basis.is_some(),
@@ -290,8 +271,8 @@ pub fn probe_stands(rows: &[f32], marks: &[u32], q: ProbeInput) -> bool
     let bits = marks[1];
     let kind = available_kind(available);
     style::flag(bits, steps::PROBED)
-        && (limits::same_bits(rows[11], available.into_option().or_zero())
-            && (limits::same_bits(rows[12], height.or_zero())
+        && (limits::same_bits(rows[11], available.into_option().unwrap_or(0.0))
+            && (limits::same_bits(rows[12], height.unwrap_or(0.0))
                 && (bits / 32 % 4 == kind
                     && same_flag(
                         style::flag(bits, steps::PROBE_HEIGHT_GIVEN),

@@ -3,45 +3,21 @@
 
 ghost use Rattle.std.specs.Prelude.{◌≡◌, true};
 
-use steps::{Answer, number_of, place_of};
+use steps::{Refusal, number_of, place_of};
 
 // By length and by bits; a NaN is the same as nothing.
 pub fn numbers(a: &[f32], b: &[f32]) -> bool
     ensures { result ≡ true → a.now ≡ b.now }
 {
-    if a.len() != b.len() {
-        return false;
-    }
-    let mut i = 0usize;
-    while i < a.len() {
-        if !limits::same_bits(a[i], b[i]) {
-            return false;
-        }
-        i += 1;
-    }
-    true
+    a.len() == b.len() && a.iter().zip(b).all(|(x, y)| limits::same_bits(*x, *y))
 }
 
 pub fn words(a: &[u32], b: &[u32]) -> bool
     ensures { result ≡ true → a.now ≡ b.now }
 {
-    if a.len() != b.len() {
-        return false;
-    }
-    let mut i = 0usize;
-    while i < a.len() {
-        if a[i] != b[i] {
-            return false;
-        }
-        i += 1;
-    }
-    true
+    a == b
 }
 
-pub fn answers(a: Answer, b: Answer) -> bool {
-    if number_of(a) == number_of(b) {
-        place_of(a) == place_of(b)
-    } else {
-        false
-    }
+pub fn answers(a: Result<u32, Refusal>, b: Result<u32, Refusal>) -> bool {
+    number_of(a) == number_of(b) && place_of(a) == place_of(b)
 }

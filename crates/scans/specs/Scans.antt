@@ -4,11 +4,10 @@
 --     hit-is, none_is                and back, for a hit that is injective and never none
 --     some-*, is-some, not_some      the same for `some`
 --     some-two, some_same, some_or   places in two parts; a test that says the same there; one of two tests
-use Rattle.std.specs.Prelude.{◌≡◌, Bool, true, false, ◌||◌, ℕ, zero, suc, ◌+◌, ◌-◌, ◌<◌, ◌≤◌}
+use Rattle.tree.specs.declared.NodeId.{NodeId}
+use Rattle.std.specs.Prelude.{◌≡◌, Bool, true, false, ◌||◌, ℕ, zero, suc, ◌+◌, ◌-◌, ◌<◌, ◌≤◌, Option, None, Some}
 use Rattle.std.proofs.Math.Path.{refl}
 use Rattle.std.proofs.Common.{sym, ◌∙◌, ap, ⊎_elim, arith, eq-or-lt_of_le}
-use Rattle.steps.specs.declared.Found.{Found}
-use Rattle.steps.specs.declared.Found.TheVariants.{Nowhere, At}
 use Rattle.steps.specs.Scan.{scan, at_node, some}
 
 module _ {A : Type 0} (p : ℕ → Bool) (hit : ℕ → A) (none : A) where
@@ -204,14 +203,14 @@ is_some_lem p n e = go (scanned p n 0)
     go (clear c) = never (sym e ∙ is_none p (λ _. true) false n 0 c)
 
 -- ---- a node found
-abbrev place_of : Found → ℕ
-place_of Nowhere = 0
-place_of (At i) = i.0
+abbrev place_of : Option NodeId → ℕ
+place_of None = 0
+place_of (Some i) = i.0
 
 pub at_inj : (a b : ℕ) → at_node a ≡ at_node b → a ≡ b
 at_inj a b e = ap place_of e
 
-pub at_apart : (a : ℕ) → at_node a ≡ Nowhere → ⊥
+pub at_apart : (a : ℕ) → at_node a ≡ None → ⊥
 at_apart a e =
     let z : ◌≡◌ {A = ℕ} 0 1 = cc in
     omega arith

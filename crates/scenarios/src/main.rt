@@ -4,18 +4,19 @@
 mod page;
 mod show;
 
+use geometry::Size;
+use layout::{layout, relayout};
 use length::AvailableSpace;
-use page::put;
+use page::{BLOCK, Field, HIDDEN, LEAF, Node, OUT, Page};
+use show::Left;
 use std::io::Stdout;
-use steps::{Answer, Question, number_of, place_of};
-use tree::NodeId;
-use util::{OptionF32, OptionSize};
+use steps::{Question, number_of};
 
 // The page in a frame of that width.
 fn known(width: f32) -> Question {
-    let known = OptionSize {
-        width: OptionF32::Some(width),
-        height: OptionF32::None,
+    let known = Size {
+        width: Some(width),
+        height: None,
     };
     Question {
         known,
@@ -29,9 +30,9 @@ fn known(width: f32) -> Question {
 
 // The page as wide as its content wants: each child without a width is probed.
 fn unknown(available: AvailableSpace) -> Question {
-    let known = OptionSize {
-        width: OptionF32::None,
-        height: OptionF32::None,
+    let known = Size {
+        width: None,
+        height: None,
     };
     Question {
         known,
@@ -43,307 +44,253 @@ fn unknown(available: AvailableSpace) -> Question {
     }
 }
 
-// The page as it is before any change, and its layout.
-fn start(
+// A page, and the rows that the call before left.
+#[derive(Drop)]
+struct Session {
     to: Stdout,
-    words: &mut [u32],
-    numbers: &mut [f32],
-    rows: &mut [f32],
-    marks: &mut [u32],
-    q: Question,
-) {
-    let mut pairs = [0u32; 4];
-    let mut triples = [0.0f32; 6];
-    page::fill(words, numbers);
-    let a = layout::layout(words, numbers, rows, marks, &mut pairs, &mut triples, q);
-    if number_of(a) != 0 {
-        show::text(to, b"the first layout is refused\n");
-    }
+    page: Page,
+    rows: [f32; 208],
+    marks: [u32; 26],
 }
 
 // Lines for nodes and candidates, then the verdict on all that the two calls left.
-fn compare(
-    to: Stdout,
-    a: Answer,
-    rows: &[f32],
-    marks: &[u32],
-    pairs: &[u32],
-    triples: &[f32],
-    b: Answer,
-    fresh_rows: &[f32],
-    fresh_marks: &[u32],
-    fresh_pairs: &[u32],
-    fresh_triples: &[f32],
-) {
-    show::refusals(to, a, b);
-    show::nodes(to, rows, marks, fresh_rows, fresh_marks);
-    show::candidates(to, place_of(a), pairs, triples, fresh_pairs, fresh_triples);
-    let r = same::numbers(rows, fresh_rows) & same::words(marks, fresh_marks);
-    let c = same::words(pairs, fresh_pairs) & same::numbers(triples, fresh_triples);
-    if r & c & same::answers(a, b) {
+fn compare(to: Stdout, left: &Left, fresh: &Left) {
+    show::refusals(to, left.answer, fresh.answer);
+    show::nodes(to, left, fresh);
+    show::candidates(to, left, fresh);
+    let same = same::answers(left.answer, fresh.answer)
+        && same::numbers(&left.rows, &fresh.rows)
+        && same::words(&left.marks, &fresh.marks)
+        && same::words(&left.pairs, &fresh.pairs)
+        && same::numbers(&left.triples, &fresh.triples);
+    if same {
         show::text(to, b"  same rows, marks and candidates\n");
     } else {
         show::text(to, b"  DIFFERENT\n");
     }
 }
 
-// A fresh layout into memory of its own, compared with what a relayout left.
-fn against_fresh(
-    to: Stdout,
-    words: &[u32],
-    numbers: &[f32],
-    a: Answer,
-    rows: &[f32],
-    marks: &[u32],
-    pairs: &[u32],
-    triples: &[f32],
-    q: Question,
-) {
-    let mut fresh = [0.0f32; 208];
-    let mut fresh_marks = [0u32; 26];
-    let mut fresh_pairs = [0u32; 4];
-    let mut fresh_triples = [0.0f32; 6];
-    let b = layout::layout(
-        words,
-        numbers,
-        &mut fresh,
-        &mut fresh_marks,
-        &mut fresh_pairs,
-        &mut fresh_triples,
+// What a relayout left, compared with a fresh layout into memory of its own.
+fn against_fresh(to: Stdout, page: &Page, left: &Left, q: Question) {
+    let mut rows = [0.0; 208];
+    let mut marks = [0; 26];
+    let mut pairs = [0; 4];
+    let mut triples = [0.0; 6];
+    let answer = layout(
+        &page.words,
+        &page.numbers,
+        &mut rows,
+        &mut marks,
+        &mut pairs,
+        &mut triples,
         q,
     );
-    compare(
-        to,
-        a,
+    let fresh = Left {
+        answer,
         rows,
         marks,
         pairs,
         triples,
-        b,
-        &fresh,
-        &fresh_marks,
-        &fresh_pairs,
-        &fresh_triples,
-    );
+    };
+    compare(to, left, &fresh);
 }
 
-// A relayout from the rows as they are, beside a layout of the same tables.
-fn beside(
-    to: Stdout,
-    words: &[u32],
-    numbers: &[f32],
-    rows: &mut [f32],
-    marks: &mut [u32],
-    edits: &[u32],
-    q: Question,
-) {
-    let mut pairs = [0u32; 4];
-    let mut triples = [0.0f32; 6];
-    let a = layout::relayout(
-        words,
-        numbers,
-        rows,
-        marks,
-        &mut pairs,
-        &mut triples,
-        edits,
-        q,
-    );
-    against_fresh(to, words, numbers, a, rows, marks, &pairs, &triples, q);
-}
+impl Session {
+    // The page as it is before any change, and its layout.
+    fn start(to: Stdout, q: Question) -> Session {
+        let page = Page::new();
+        let mut rows = [0.0; 208];
+        let mut marks = [0; 26];
+        let mut pairs = [0; 4];
+        let mut triples = [0.0; 6];
+        let a = layout(
+            &page.words,
+            &page.numbers,
+            &mut rows,
+            &mut marks,
+            &mut pairs,
+            &mut triples,
+            q,
+        );
+        if number_of(a) != 0 {
+            show::text(to, b"the first layout is refused\n");
+        }
+        Session {
+            to,
+            page,
+            rows,
+            marks,
+        }
+    }
 
-fn no_edit(
-    to: Stdout,
-    words: &[u32],
-    numbers: &[f32],
-    rows: &mut [f32],
-    marks: &mut [u32],
-    q: Question,
-) {
-    beside(to, words, numbers, rows, marks, &words[..0], q);
-}
-
-fn one_edit(
-    to: Stdout,
-    words: &[u32],
-    numbers: &[f32],
-    rows: &mut [f32],
-    marks: &mut [u32],
-    node: NodeId,
-    q: Question,
-) {
-    let edits = [node.0];
-    beside(to, words, numbers, rows, marks, &edits, q);
+    // A relayout from the rows as they are, beside a layout of the same tables.
+    fn relay(&mut self, title: &[u8], edits: &[u32], q: Question) {
+        let Session {
+            to,
+            page,
+            rows,
+            marks,
+        } = self;
+        show::text(*to, title);
+        let mut pairs = [0; 4];
+        let mut triples = [0.0; 6];
+        let answer = relayout(
+            &page.words,
+            &page.numbers,
+            rows,
+            marks,
+            &mut pairs,
+            &mut triples,
+            edits,
+            q,
+        );
+        let left = Left {
+            answer,
+            rows: *rows,
+            marks: *marks,
+            pairs,
+            triples,
+        };
+        against_fresh(*to, page, &left, q);
+    }
 }
 
 // Every child of the page is kept.
 fn unchanged(to: Stdout) {
-    let mut words = [0u32; 52];
-    let mut numbers = [0.0f32; 364];
-    let mut rows = [0.0f32; 208];
-    let mut marks = [0u32; 26];
     let q = known(320.0);
-    start(to, &mut words, &mut numbers, &mut rows, &mut marks, q);
-    show::text(to, b"\n0. Nothing has changed. No edit.\n");
-    no_edit(to, &words, &numbers, &mut rows, &mut marks, q);
+    let mut session = Session::start(to, q);
+    session.relay(b"\n0. Nothing has changed. No edit.\n", &[], q);
 }
 
 // The rows below the notice are kept as they are, at other places.
 fn notice_grows(to: Stdout) {
-    let mut words = [0u32; 52];
-    let mut numbers = [0.0f32; 364];
-    let mut rows = [0.0f32; 208];
-    let mut marks = [0u32; 26];
     let q = known(320.0);
-    start(to, &mut words, &mut numbers, &mut rows, &mut marks, q);
-    put(&mut numbers, page::NOTICE, page::HEIGHT, 64.0);
-    show::text(
-        to,
+    let mut session = Session::start(to, q);
+    session.page.put(Node::Notice, Field::Height, 64.0);
+    session.relay(
         b"\n1. The notice grows from 40 to 64 pixels. Edit: 2.\n",
+        &[Node::Notice as u32],
+        q,
     );
-    one_edit(to, &words, &numbers, &mut rows, &mut marks, NodeId(2), q);
 }
 
 // Rows that held zeros are laid; the orders after them move up by one.
 fn row_is_shown(to: Stdout) {
-    let mut words = [0u32; 52];
-    let mut numbers = [0.0f32; 364];
-    let mut rows = [0.0f32; 208];
-    let mut marks = [0u32; 26];
     let q = known(320.0);
-    start(to, &mut words, &mut numbers, &mut rows, &mut marks, q);
-    page::style(&mut words, page::TARIFF, page::BLOCK);
-    show::text(to, b"\n2. The tariff row is shown. Edit: 6.\n");
-    one_edit(to, &words, &numbers, &mut rows, &mut marks, NodeId(6), q);
+    let mut session = Session::start(to, q);
+    session.page.style(Node::Tariff, BLOCK);
+    session.relay(
+        b"\n2. The tariff row is shown. Edit: 6.\n",
+        &[Node::Tariff as u32],
+        q,
+    );
 }
 
 // No child of the page is kept. 9 and 10 are: the export row is 200 pixels wide as before, so they are asked the same.
 fn frame_narrows(to: Stdout) {
-    let mut words = [0u32; 52];
-    let mut numbers = [0.0f32; 364];
-    let mut rows = [0.0f32; 208];
-    let mut marks = [0u32; 26];
-    start(
-        to,
-        &mut words,
-        &mut numbers,
-        &mut rows,
-        &mut marks,
-        known(320.0),
-    );
-    show::text(
-        to,
+    let mut session = Session::start(to, known(320.0));
+    session.relay(
         b"\n3. The frame narrows from 320 to 240 pixels. No edit.\n",
+        &[],
+        known(240.0),
     );
-    no_edit(to, &words, &numbers, &mut rows, &mut marks, known(240.0));
 }
 
 // Each relayout starts from the rows that the one before it left.
 fn chain(to: Stdout) {
-    let mut words = [0u32; 52];
-    let mut numbers = [0.0f32; 364];
-    let mut rows = [0.0f32; 208];
-    let mut marks = [0u32; 26];
     let q = known(320.0);
-    start(to, &mut words, &mut numbers, &mut rows, &mut marks, q);
-    page::style(&mut words, page::BADGE, page::HIDDEN);
-    show::text(to, b"\n4a. The badge is hidden. Edit: 11.\n");
-    one_edit(to, &words, &numbers, &mut rows, &mut marks, NodeId(11), q);
-    put(&mut numbers, page::IMPORT_LABEL, page::MARGIN_TOP, -26.0);
-    show::text(
-        to,
+    let mut session = Session::start(to, q);
+    session.page.style(Node::Badge, HIDDEN);
+    session.relay(
+        b"\n4a. The badge is hidden. Edit: 11.\n",
+        &[Node::Badge as u32],
+        q,
+    );
+    session.page.put(Node::ImportLabel, Field::MarginTop, -26.0);
+    session.relay(
         b"\n4b. Then the import label's top margin turns from 20 to -26. Edit: 4.\n",
+        &[Node::ImportLabel as u32],
+        q,
     );
-    one_edit(to, &words, &numbers, &mut rows, &mut marks, NodeId(4), q);
-    page::style(&mut words, page::BADGE, page::LEAF | page::OUT);
-    put(&mut numbers, page::HEADING, page::HEIGHT, 30.0);
-    show::text(
-        to,
+    session.page.style(Node::Badge, LEAF | OUT);
+    session.page.put(Node::Heading, Field::Height, 30.0);
+    session.relay(
         b"\n4c. Then the badge is back and the heading grows from 24 to 30. Edits: 11, 1.\n",
+        &[Node::Badge as u32, Node::Heading as u32],
+        q,
     );
-    let edits = [11u32, 1];
-    beside(to, &words, &numbers, &mut rows, &mut marks, &edits, q);
 }
 
 // A probe that stands in its row is answered from there, also where the page turns wider and its node is not kept.
 fn width_from_content(to: Stdout) {
-    let mut words = [0u32; 52];
-    let mut numbers = [0.0f32; 364];
-    let mut rows = [0.0f32; 208];
-    let mut marks = [0u32; 26];
     let q = unknown(AvailableSpace::MaxContent);
-    start(to, &mut words, &mut numbers, &mut rows, &mut marks, q);
-    put(&mut numbers, page::IMPORT_VALUE, page::HEIGHT, 42.0);
-    show::text(
-        to,
+    let mut session = Session::start(to, q);
+    session.page.put(Node::ImportValue, Field::Height, 42.0);
+    session.relay(
         b"\n5a. As wide as the content wants; the import value grows from 30 to 42. Edit: 5.\n",
+        &[Node::ImportValue as u32],
+        q,
     );
-    one_edit(to, &words, &numbers, &mut rows, &mut marks, NodeId(5), q);
-    put(&mut numbers, page::NOTICE, page::MOST, 320.0);
-    show::text(
-        to,
+    session.page.put(Node::Notice, Field::Most, 320.0);
+    session.relay(
         b"\n5b. Then the notice wants 320 pixels in place of 280. Edit: 2.\n",
+        &[Node::Notice as u32],
+        q,
     );
-    one_edit(to, &words, &numbers, &mut rows, &mut marks, NodeId(2), q);
 }
 
 // The probes ask for another width, so each is asked anew.
 fn width_available(to: Stdout) {
-    let mut words = [0u32; 52];
-    let mut numbers = [0.0f32; 364];
-    let mut rows = [0.0f32; 208];
-    let mut marks = [0u32; 26];
-    let q = unknown(AvailableSpace::MaxContent);
-    start(to, &mut words, &mut numbers, &mut rows, &mut marks, q);
-    let narrow = unknown(AvailableSpace::Definite(220.0));
-    show::text(
-        to,
+    let mut session = Session::start(to, unknown(AvailableSpace::MaxContent));
+    session.relay(
         b"\n5c. The page as at first; then only 220 pixels are available. No edit.\n",
+        &[],
+        unknown(AvailableSpace::Definite(220.0)),
     );
-    no_edit(to, &words, &numbers, &mut rows, &mut marks, narrow);
 }
 
 // A list that leaves a change out breaks what a caller owes. The import row is kept, at its new place with its old height.
 fn change_not_named(to: Stdout) {
-    let mut words = [0u32; 52];
-    let mut numbers = [0.0f32; 364];
-    let mut rows = [0.0f32; 208];
-    let mut marks = [0u32; 26];
     let q = known(320.0);
-    start(to, &mut words, &mut numbers, &mut rows, &mut marks, q);
-    put(&mut numbers, page::NOTICE, page::HEIGHT, 64.0);
-    put(&mut numbers, page::IMPORT_VALUE, page::HEIGHT, 60.0);
+    let mut session = Session::start(to, q);
+    session.page.put(Node::Notice, Field::Height, 64.0);
+    session.page.put(Node::ImportValue, Field::Height, 60.0);
     show::text(
         to,
         b"\n6a. WRONG USE: the notice grows as in 1, and the import value from 30 to 60 pixels.\n",
     );
-    show::text(
-        to,
+    session.relay(
         b"    The list names the notice alone: the import row keeps its old height. Edit: 2.\n",
+        &[Node::Notice as u32],
+        q,
     );
-    one_edit(to, &words, &numbers, &mut rows, &mut marks, NodeId(2), q);
-    show::text(to, b"\n6b. Now the list names the value. Edit: 5.\n");
-    one_edit(to, &words, &numbers, &mut rows, &mut marks, NodeId(5), q);
+    session.relay(
+        b"\n6b. Now the list names the value. Edit: 5.\n",
+        &[Node::ImportValue as u32],
+        q,
+    );
 }
 
 // Heights that are parts of their container's: it alone is named when it grows, and the boxes in it follow.
 fn half_heights(to: Stdout) {
-    let mut words = [0u32; 52];
-    let mut numbers = [0.0f32; 364];
-    let mut rows = [0.0f32; 208];
-    let mut marks = [0u32; 26];
     let q = known(320.0);
-    start(to, &mut words, &mut numbers, &mut rows, &mut marks, q);
-    page::halves(&mut words, &mut numbers, 80.0);
-    show::text(
-        to,
+    let mut session = Session::start(to, q);
+    session.page.halves(80.0);
+    session.relay(
         b"\n7a. The export row is 80 pixels high, its label and value half each. Edits: 8, 9, 10.\n",
+        &[
+            Node::Export as u32,
+            Node::ExportLabel as u32,
+            Node::ExportValue as u32,
+        ],
+        q,
     );
-    let edits = [8u32, 9, 10];
-    beside(to, &words, &numbers, &mut rows, &mut marks, &edits, q);
-    put(&mut numbers, page::EXPORT, page::BOX_HEIGHT, 120.0);
-    show::text(to, b"\n7b. Then the row grows to 120 pixels. Edit: 8.\n");
-    one_edit(to, &words, &numbers, &mut rows, &mut marks, NodeId(8), q);
+    session.page.put(Node::Export, Field::BoxHeight, 120.0);
+    session.relay(
+        b"\n7b. Then the row grows to 120 pixels. Edit: 8.\n",
+        &[Node::Export as u32],
+        q,
+    );
 }
 
 fn legend(to: Stdout) {

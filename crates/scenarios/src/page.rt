@@ -4,31 +4,22 @@ pub const NODES: usize = 13;
 pub const RECORDS: usize = 2;
 
 // Nodes, in preorder.
-pub const PAGE: usize = 0;
-
-pub const HEADING: usize = 1;
-
-pub const NOTICE: usize = 2;
-
-pub const IMPORT: usize = 3;
-
-pub const IMPORT_LABEL: usize = 4;
-
-pub const IMPORT_VALUE: usize = 5;
-
-pub const TARIFF: usize = 6;
-
-pub const TARIFF_LABEL: usize = 7;
-
-pub const EXPORT: usize = 8;
-
-pub const EXPORT_LABEL: usize = 9;
-
-pub const EXPORT_VALUE: usize = 10;
-
-pub const BADGE: usize = 11;
-
-pub const FOOT: usize = 12;
+#[derive(Clone, Copy)]
+pub enum Node {
+    Page,
+    Heading,
+    Notice,
+    Import,
+    ImportLabel,
+    ImportValue,
+    Tariff,
+    TariffLabel,
+    Export,
+    ExportLabel,
+    ExportValue,
+    Badge,
+    Foot,
+}
 
 // Style words.
 pub const BLOCK: u32 = 0;
@@ -42,157 +33,150 @@ pub const RELATIVE: u32 = 16;
 pub const OUT: u32 = 32;
 
 // Fields of a node's numbers.
-pub const WIDTH: usize = 0;
-
-pub const BOX_HEIGHT: usize = 1;
-
-pub const MARGIN_TOP: usize = 6;
-
-pub const MARGIN_RIGHT: usize = 7;
-
-pub const MARGIN_BOTTOM: usize = 8;
-
-pub const MARGIN_LEFT: usize = 9;
-
-pub const PADDING_TOP: usize = 10;
-
-pub const PADDING_BOTTOM: usize = 12;
-
-pub const INSET_LEFT: usize = 21;
-
-pub const RATIO: usize = 22;
-
-pub const LEAST: usize = 24;
-
-pub const MOST: usize = 25;
-
-pub const HEIGHT: usize = 26;
+#[derive(Clone, Copy)]
+pub enum Field {
+    Width = 0,
+    BoxHeight = 1,
+    MarginTop = 6,
+    MarginRight = 7,
+    MarginBottom = 8,
+    MarginLeft = 9,
+    PaddingTop = 10,
+    PaddingBottom = 12,
+    InsetLeft = 21,
+    Ratio = 22,
+    Least = 24,
+    Most = 25,
+    Height = 26,
+}
 
 // Units: margins, padding and border in pixels, all else auto.
 const UNITS: u32 = 0x0555_5000;
 
 const UNITS_BEYOND: u32 = 0x55;
 
-// Word k of a node; past the tables nothing is written, here and below, so that no caller has an index to justify.
-pub fn put_word(words: &mut [u32], node: usize, k: usize, v: u32) {
-    if node < NODES {
-        if k < 4 {
-            let at = 4 * node + k;
-            if at < words.len() {
-                words[at] = v;
-            }
-        }
+#[derive(Drop)]
+pub struct Page {
+    pub words: [u32; 52],
+    pub numbers: [f32; 364],
+}
+
+impl Page {
+    pub fn put(&mut self, node: Node, field: Field, v: f32) {
+        let at = style::number_place(NODES, node as usize, field as usize);
+        self.numbers[at] = v;
     }
-}
 
-// Number f of a node.
-pub fn put(numbers: &mut [f32], node: usize, f: usize, v: f32) {
-    if node < NODES {
-        if f < 28 {
-            let at = style::number_place(NODES, node, f);
-            if at < numbers.len() {
-                numbers[at] = v;
-            }
-        }
+    pub fn style(&mut self, node: Node, v: u32) {
+        self.words[4 * (node as usize) + 1] = v;
     }
-}
 
-pub fn style(words: &mut [u32], node: usize, v: u32) {
-    put_word(words, node, 1, v);
-}
+    fn units(&mut self, node: Node, v: u32) {
+        self.words[4 * (node as usize) + 2] = v;
+    }
 
-fn node(words: &mut [u32], i: usize, size: u32, kind: u32) {
-    put_word(words, i, 0, size);
-    style(words, i, kind);
-    put_word(words, i, 2, UNITS);
-    put_word(words, i, 3, UNITS_BEYOND);
-}
+    fn units_beyond(&mut self, node: Node, v: u32) {
+        self.words[4 * (node as usize) + 3] = v;
+    }
 
-fn leaf(words: &mut [u32], numbers: &mut [f32], i: usize, least: f32, most: f32, height: f32) {
-    node(words, i, 1, LEAF);
-    put(numbers, i, LEAST, least);
-    put(numbers, i, MOST, most);
-    put(numbers, i, HEIGHT, height);
-}
+    fn node(&mut self, node: Node, size: u32, kind: u32) {
+        self.words[4 * (node as usize)] = size;
+        self.style(node, kind);
+        self.units(node, UNITS);
+        self.units_beyond(node, UNITS_BEYOND);
+    }
 
-fn margins(numbers: &mut [f32], i: usize, top: f32, bottom: f32) {
-    put(numbers, i, MARGIN_TOP, top);
-    put(numbers, i, MARGIN_BOTTOM, bottom);
-}
+    fn leaf(&mut self, node: Node, least: f32, most: f32, height: f32) {
+        self.node(node, 1, LEAF);
+        self.put(node, Field::Least, least);
+        self.put(node, Field::Most, most);
+        self.put(node, Field::Height, height);
+    }
 
-// The heading, and the notice between side margins.
-fn fill_head(words: &mut [u32], numbers: &mut [f32]) {
-    leaf(words, numbers, HEADING, 60.0, 200.0, 24.0);
-    margins(numbers, HEADING, 12.0, 12.0);
-    leaf(words, numbers, NOTICE, 80.0, 280.0, 40.0);
-    margins(numbers, NOTICE, 8.0, 16.0);
-    put(numbers, NOTICE, MARGIN_LEFT, 10.0);
-    put(numbers, NOTICE, MARGIN_RIGHT, 10.0);
-}
+    fn margins(&mut self, node: Node, top: f32, bottom: f32) {
+        self.put(node, Field::MarginTop, top);
+        self.put(node, Field::MarginBottom, bottom);
+    }
 
-// The import row, whose top margin and its label's are one.
-fn fill_import(words: &mut [u32], numbers: &mut [f32]) {
-    node(words, IMPORT, 3, BLOCK);
-    margins(numbers, IMPORT, 10.0, 10.0);
-    leaf(words, numbers, IMPORT_LABEL, 40.0, 90.0, 20.0);
-    margins(numbers, IMPORT_LABEL, 20.0, 0.0);
-    leaf(words, numbers, IMPORT_VALUE, 50.0, 120.0, 30.0);
-}
+    // The heading, and the notice between side margins.
+    fn fill_head(&mut self) {
+        self.leaf(Node::Heading, 60.0, 200.0, 24.0);
+        self.margins(Node::Heading, 12.0, 12.0);
+        self.leaf(Node::Notice, 80.0, 280.0, 40.0);
+        self.margins(Node::Notice, 8.0, 16.0);
+        self.put(Node::Notice, Field::MarginLeft, 10.0);
+        self.put(Node::Notice, Field::MarginRight, 10.0);
+    }
 
-// The tariff row, hidden at first.
-fn fill_tariff(words: &mut [u32], numbers: &mut [f32]) {
-    node(words, TARIFF, 2, HIDDEN);
-    margins(numbers, TARIFF, 6.0, 6.0);
-    leaf(words, numbers, TARIFF_LABEL, 40.0, 90.0, 18.0);
-}
+    // The import row, whose top margin and its label's are one.
+    fn fill_import(&mut self) {
+        self.node(Node::Import, 3, BLOCK);
+        self.margins(Node::Import, 10.0, 10.0);
+        self.leaf(Node::ImportLabel, 40.0, 90.0, 20.0);
+        self.margins(Node::ImportLabel, 20.0, 0.0);
+        self.leaf(Node::ImportValue, 50.0, 120.0, 30.0);
+    }
 
-// The export row: 200 pixels wide, at the right by an auto margin, with padding.
-fn fill_export(words: &mut [u32], numbers: &mut [f32]) {
-    node(words, EXPORT, 4, BLOCK);
-    put_word(words, EXPORT, 2, 0x0551_5001);
-    put(numbers, EXPORT, WIDTH, 200.0);
-    margins(numbers, EXPORT, 12.0, 10.0);
-    put(numbers, EXPORT, PADDING_TOP, 5.0);
-    put(numbers, EXPORT, PADDING_BOTTOM, 5.0);
-}
+    // The tariff row, hidden at first.
+    fn fill_tariff(&mut self) {
+        self.node(Node::Tariff, 2, HIDDEN);
+        self.margins(Node::Tariff, 6.0, 6.0);
+        self.leaf(Node::TariffLabel, 40.0, 90.0, 18.0);
+    }
 
-// What is in it: a label, a value, and the badge out of the flow.
-fn fill_export_row(words: &mut [u32], numbers: &mut [f32]) {
-    leaf(words, numbers, EXPORT_LABEL, 40.0, 90.0, 20.0);
-    leaf(words, numbers, EXPORT_VALUE, 50.0, 120.0, 30.0);
-    leaf(words, numbers, BADGE, 16.0, 16.0, 16.0);
-    style(words, BADGE, LEAF | OUT);
-}
+    // The export row: 200 pixels wide, at the right by an auto margin, with padding.
+    fn fill_export(&mut self) {
+        self.node(Node::Export, 4, BLOCK);
+        self.units(Node::Export, 0x0551_5001);
+        self.put(Node::Export, Field::Width, 200.0);
+        self.margins(Node::Export, 12.0, 10.0);
+        self.put(Node::Export, Field::PaddingTop, 5.0);
+        self.put(Node::Export, Field::PaddingBottom, 5.0);
+    }
 
-// The export row that high, padding and all, its label and its value half of what is left.
-pub fn halves(words: &mut [u32], numbers: &mut [f32], height: f32) {
-    put_word(words, EXPORT, 2, 0x0551_5005);
-    put(numbers, EXPORT, BOX_HEIGHT, height);
-    put_word(words, EXPORT_LABEL, 2, 0x0555_5008);
-    put(numbers, EXPORT_LABEL, BOX_HEIGHT, 0.5);
-    put_word(words, EXPORT_VALUE, 2, 0x0555_5008);
-    put(numbers, EXPORT_VALUE, BOX_HEIGHT, 0.5);
-}
+    // What is in it: a label, a value, and the badge out of the flow.
+    fn fill_export_row(&mut self) {
+        self.leaf(Node::ExportLabel, 40.0, 90.0, 20.0);
+        self.leaf(Node::ExportValue, 50.0, 120.0, 30.0);
+        self.leaf(Node::Badge, 16.0, 16.0, 16.0);
+        self.style(Node::Badge, LEAF | OUT);
+    }
 
-// The foot: half as wide as the page, a tenth as high as wide, moved 4 pixels to the left.
-fn fill_foot(words: &mut [u32], numbers: &mut [f32]) {
-    leaf(words, numbers, FOOT, 40.0, 80.0, 10.0);
-    style(words, FOOT, LEAF | RELATIVE);
-    put_word(words, FOOT, 2, 0x0555_5002);
-    put_word(words, FOOT, 3, 0x4055);
-    put(numbers, FOOT, WIDTH, 0.5);
-    put(numbers, FOOT, RATIO, 10.0);
-    margins(numbers, FOOT, 10.0, 0.0);
-    put(numbers, FOOT, INSET_LEFT, -4.0);
-}
+    // The export row that high, padding and all, its label and its value half of what is left.
+    pub fn halves(&mut self, height: f32) {
+        self.units(Node::Export, 0x0551_5005);
+        self.put(Node::Export, Field::BoxHeight, height);
+        self.units(Node::ExportLabel, 0x0555_5008);
+        self.put(Node::ExportLabel, Field::BoxHeight, 0.5);
+        self.units(Node::ExportValue, 0x0555_5008);
+        self.put(Node::ExportValue, Field::BoxHeight, 0.5);
+    }
 
-// The whole page, into tables of zeros.
-pub fn fill(words: &mut [u32], numbers: &mut [f32]) {
-    node(words, PAGE, 13, BLOCK);
-    fill_head(words, numbers);
-    fill_import(words, numbers);
-    fill_tariff(words, numbers);
-    fill_export(words, numbers);
-    fill_export_row(words, numbers);
-    fill_foot(words, numbers);
+    // The foot: half as wide as the page, a tenth as high as wide, moved 4 pixels to the left.
+    fn fill_foot(&mut self) {
+        self.leaf(Node::Foot, 40.0, 80.0, 10.0);
+        self.style(Node::Foot, LEAF | RELATIVE);
+        self.units(Node::Foot, 0x0555_5002);
+        self.units_beyond(Node::Foot, 0x4055);
+        self.put(Node::Foot, Field::Width, 0.5);
+        self.put(Node::Foot, Field::Ratio, 10.0);
+        self.margins(Node::Foot, 10.0, 0.0);
+        self.put(Node::Foot, Field::InsetLeft, -4.0);
+    }
+
+    // The whole page, over zeros.
+    pub fn new() -> Page {
+        let mut page = Page {
+            words: [0; 52],
+            numbers: [0.0; 364],
+        };
+        page.node(Node::Page, 13, BLOCK);
+        page.fill_head();
+        page.fill_import();
+        page.fill_tariff();
+        page.fill_export();
+        page.fill_export_row();
+        page.fill_foot();
+        page
+    }
 }

@@ -1,4 +1,7 @@
 -- Halving over what an index keeps is the search word for word: for bottoms of any make, NaN among them, the first position whose bottom is a greater number than y, and none exactly if there is none.
+use Rattle.scroll.specs.declared.ScrollRefusal.TheVariants.{NotFinite}
+use Rattle.std.specs.Prelude.{Option, Result, Ok, Err, Some, None}
+use Rattle.scroll.specs.declared.ScrollRefusal.{ScrollRefusal}
 use mathlib.Core.Path.{◌≡◌, refl, sym, ap, subst, ◌∙◌}
 use mathlib.Core.Bool.{Bool, true, false, cond, not, ◌&&◌, beq, true≢false}
 use mathlib.Core.List.{List}
@@ -14,8 +17,6 @@ use Rattle.util.specs.Order.{lt_asym}
 use Rattle.scroll.specs.Running.{lowest_f, highest_f, running_of}
 use Rattle.scroll.specs.Halving.{First, beyond, halved}
 use Rattle.scroll.specs.Scroll.{is_finite, position, scroll_answer, ScrollDue}
-use Rattle.scroll.specs.declared.ScrollAnswer.{ScrollAnswer}
-use Rattle.scroll.specs.declared.ScrollAnswer.TheVariants as answer
 use Rattle.scroll.proofs.HalvingLaws.{finds}
 use Rattle.scroll.proofs.RunningLaws.{length_running, keeps, reaches, needs-one}
 
@@ -93,7 +94,7 @@ halving_first bs y e =
     rw l (same_first bs y _ (above_lowest y e) (finds (beyond (running_of bs) y) (length bs) (keeps y lowest_f bs lowest_number)))
 
 -- each answer with what it is given for
-holds : (bs : List Float) (y : Float) (k : ℕ) → is_finite y ≡ true → First (beyond bs y) (length bs) k → (b : Bool) → ltb k (length bs) ≡ b → ScrollDue bs y (cond b (answer.First k) answer.Nothing)
+holds : (bs : List Float) (y : Float) (k : ℕ) → is_finite y ≡ true → First (beyond bs y) (length bs) k → (b : Bool) → ltb k (length bs) ≡ b → ScrollDue bs y (cond b (Ok (Some k)) (Ok None))
 holds bs y k e f true q = let l = ltb-true k (length bs) q in (e, l, f.here l, f.before)
 holds bs y k e f false q = let l = ltb-false k (length bs) q in (e, λ j h. f.before j (omega arith))
 
@@ -106,16 +107,16 @@ due bs y true e =
 due bs y false e = rw e e
 
 -- no two answers are due
-one_due : (bs : List Float) (y : Float) (a b : ScrollAnswer) → ScrollDue bs y a → ScrollDue bs y b → a ≡ b
-one_due bs y answer.NotFinite answer.NotFinite h g = refl
-one_due bs y answer.NotFinite answer.Nothing h g = absurd (true≢false (sym g.0 ∙ h))
-one_due bs y answer.NotFinite (answer.First k) h g = absurd (true≢false (sym g.0 ∙ h))
-one_due bs y answer.Nothing answer.NotFinite h g = absurd (true≢false (sym h.0 ∙ g))
-one_due bs y answer.Nothing answer.Nothing h g = refl
-one_due bs y answer.Nothing (answer.First k) h g = absurd (true≢false (sym g.2 ∙ h.1 k g.1))
-one_due bs y (answer.First k) answer.NotFinite h g = absurd (true≢false (sym h.0 ∙ g))
-one_due bs y (answer.First k) answer.Nothing h g = absurd (true≢false (sym h.2 ∙ g.1 k h.1))
-one_due bs y (answer.First j) (answer.First k) h g = ap answer.First (same (ltb j k) (ltb k j) refl refl)
+one_due : (bs : List Float) (y : Float) (a b : Result (Option ℕ) ScrollRefusal) → ScrollDue bs y a → ScrollDue bs y b → a ≡ b
+one_due bs y (Err NotFinite) (Err NotFinite) h g = refl
+one_due bs y (Err NotFinite) (Ok None) h g = absurd (true≢false (sym g.0 ∙ h))
+one_due bs y (Err NotFinite) (Ok (Some k)) h g = absurd (true≢false (sym g.0 ∙ h))
+one_due bs y (Ok None) (Err NotFinite) h g = absurd (true≢false (sym h.0 ∙ g))
+one_due bs y (Ok None) (Ok None) h g = refl
+one_due bs y (Ok None) (Ok (Some k)) h g = absurd (true≢false (sym g.2 ∙ h.1 k g.1))
+one_due bs y (Ok (Some k)) (Err NotFinite) h g = absurd (true≢false (sym h.0 ∙ g))
+one_due bs y (Ok (Some k)) (Ok None) h g = absurd (true≢false (sym h.2 ∙ g.1 k h.1))
+one_due bs y (Ok (Some j)) (Ok (Some k)) h g = ap (λ i. Ok (Some i)) (same (ltb j k) (ltb k j) refl refl)
   where
     same : (b c : Bool) → ltb j k ≡ b → ltb k j ≡ c → j ≡ k
     same true c p q = absurd (true≢false (sym h.2 ∙ g.3 j (ltb-true j k p)))
@@ -123,7 +124,7 @@ one_due bs y (answer.First j) (answer.First k) h g = ap answer.First (same (ltb 
     same false false p q = let a = ltb-false j k p in let b = ltb-false k j q in omega arith
 
 -- over what make_index left, each answer is given exactly if it is due
-pub scroll_exactly : (bs : List Float) (y : Float) (a : ScrollAnswer) → (scroll_answer (running_of bs) y ≡ a → ScrollDue bs y a) × (ScrollDue bs y a → scroll_answer (running_of bs) y ≡ a)
+pub scroll_exactly : (bs : List Float) (y : Float) (a : Result (Option ℕ) ScrollRefusal) → (scroll_answer (running_of bs) y ≡ a → ScrollDue bs y a) × (ScrollDue bs y a → scroll_answer (running_of bs) y ≡ a)
 scroll_exactly bs y a =
     let d = due bs y (is_finite y) refl in
     (λ e. subst (ScrollDue bs y) e d, λ h. one_due bs y (scroll_answer (running_of bs) y) a d h)

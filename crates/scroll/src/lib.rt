@@ -7,11 +7,9 @@ ghost use Rattle.scroll.specs.Scroll.{is_finite, scroll_answer, ScrollReplied};
 
 use limits::in_range;
 
-// What the scroll key finds: a position in the list, or that there is none.
+// Why the scroll key refuses: the line is no finite number.
 #[derive(Clone, Copy)]
-pub enum ScrollAnswer {
-    First(usize),
-    Nothing,
+pub enum ScrollRefusal {
     NotFinite,
 }
 
@@ -28,6 +26,7 @@ fn halve(running: &[f32], y: f32) -> usize
 {
     let mut lo = 0;
     let mut hi = running.len();
+    // Not `partition_point`: of a slice that does not rise it promises nothing.
     while lo < hi {
         let middle = lo + (hi - lo) / 2;
         if y < running[middle] {
@@ -39,16 +38,16 @@ fn halve(running: &[f32], y: f32) -> usize
     lo
 }
 
-// The first position of the index whose bottom edge is a greater number than y.
-pub fn scroll(running: &[f32], y: f32) -> ScrollAnswer
+// The first position of the index whose bottom edge is a greater number than y, or that there is none.
+pub fn scroll(running: &[f32], y: f32) -> Result<Option<usize>, ScrollRefusal>
     ensures { ScrollReplied (scroll_answer running.now y) result }
 {
     if !is_finite(y) {
-        return ScrollAnswer::NotFinite;
+        return Err(ScrollRefusal::NotFinite);
     }
     let at = halve(running, y);
     if at < running.len() {
-        return ScrollAnswer::First(at);
+        return Ok(Some(at));
     }
-    ScrollAnswer::Nothing
+    Ok(None)
 }

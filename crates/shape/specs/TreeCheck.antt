@@ -1,12 +1,11 @@
 -- What the tree check hands down: a part of the words, and where it stands among the runs of the nodes before it.
-use Rattle.std.specs.Prelude.{◌≡◌, Bool, ◌&&◌, ◌||◌, List, ℕ, ◌+◌, ◌<◌, ◌≤◌, eqb, ltb}
+use Rattle.tree.specs.declared.NodeId.{NodeId}
+use Rattle.std.specs.Prelude.{◌≡◌, Bool, ◌&&◌, ◌||◌, List, ℕ, ◌+◌, ◌<◌, ◌≤◌, eqb, ltb, Option, None}
 use Rattle.style.specs.Codes.{code_at}
 use Rattle.style.specs.Style.{word_at}
 use Rattle.steps.specs.Scan.{scan, at_node, how_many}
 use Rattle.steps.specs.Page.{nodes_in}
 use Rattle.steps.specs.Noes.{end_at, holds, bad_tree}
-use Rattle.steps.specs.declared.Found.{Found}
-use Rattle.steps.specs.declared.Found.TheVariants.{Nowhere}
 
 -- 2, of a node below the root: its size, its style word, the nodes from here to the end of its parent's run, the depth left
 unfoldable pub node_fault : ℕ → ℕ → ℕ → ℕ → Bool
@@ -25,5 +24,5 @@ abbrev pub PartOf : List ℕ → ℕ → List ℕ → Type 0
 PartOf ws b part = (k m : ℕ) → k < nodes_in part → m < 4 → word_at part k m ≡ word_at ws (b + k) m
 
 -- the answer for a part: the lowest of its nodes that is at fault in the whole table
-abbrev pub CheckedPart : List ℕ → ℕ → ℕ → Found → Type 0
-CheckedPart part b depth r = (ws : List ℕ) → PartOf ws b part → Front ws b (b + nodes_in part) depth → r ≡ scan (bad_tree ws) at_node Nowhere b (nodes_in part)
+abbrev pub CheckedPart : List ℕ → ℕ → ℕ → Option NodeId → Type 0
+CheckedPart part b depth r = (ws : List ℕ) → PartOf ws b part → Front ws b (b + nodes_in part) depth → r ≡ scan (bad_tree ws) at_node None b (nodes_in part)

@@ -8,7 +8,6 @@ ghost use Rattle.steps.specs.Page.{nodes_in};
 ghost use Rattle.steps.specs.Noes.{bad_tree};
 ghost use Rattle.shape.specs.TreeCheck.{node_fault, CheckedPart};
 
-use steps::Found;
 use style::{code, word, word_in};
 use tree::NodeId;
 
@@ -40,17 +39,18 @@ fn node_fault(size: usize, style: u32, room: usize, depth: u32) -> bool
 }
 
 // 2: the children that make up a parent's run, and all below them, with this depth left. `base` is the number of the first.
-fn below(words: &[u32], base: usize, depth: u32) -> Found
+fn below(words: &[u32], base: usize, depth: u32) -> Option<NodeId>
     requires { base + nodes_in words.now ≤ 4294967295 }
     ensures { CheckedPart words.now base depth result }
 {
     let n = words.len() / style::WORDS;
     let mut a = 0;
+    // No `for`: a step is as long as its run.
     while a < n {
         let size = word_in(words, a, style::SIZE) as usize;
         let style = word_in(words, a, style::STYLE);
         if node_fault(size, style, n - a, depth) {
-            return Found::At(NodeId((base + a) as u32));
+            return Some(NodeId((base + a) as u32));
         }
         let b = a + 1;
         let e = a + size;
@@ -59,31 +59,31 @@ fn below(words: &[u32], base: usize, depth: u32) -> Found
             base + b,
             depth - 1,
         );
-        if let Found::At(i) = found {
-            return Found::At(i);
+        if let Some(i) = found {
+            return Some(i);
         }
         a = e;
     }
-    Found::Nowhere
+    None
 }
 
 // 2: the depth left below the root.
 const BELOW_ROOT: u32 = tree::MAX_DEPTH as u32 - 1;
 
 // 2: the lowest node at fault.
-pub fn check_tree(words: &[u32]) -> Found
+pub fn check_tree(words: &[u32]) -> Option<NodeId>
     ensures { result ≡ lowest (bad_tree words.now) (nodes_in words.now) }
 {
     let n = words.len() / style::WORDS;
     if n == 0 {
-        return Found::Nowhere;
+        return None;
     }
     let size = word(words, 0, style::SIZE) as usize;
     if size != n {
-        return Found::At(NodeId(0));
+        return Some(NodeId(0));
     }
     if long_leaf(word(words, 0, style::STYLE), size) {
-        return Found::At(NodeId(0));
+        return Some(NodeId(0));
     }
     below(&words[style::WORDS..style::WORDS * n], 1, BELOW_ROOT)
 }

@@ -1,38 +1,41 @@
 // Step J: a child's item and question, and what its place will ask of it.
 ghost use Rattle.std.specs.Prelude.{◌≡◌, List, ◌<◌, ◌≤◌, length, Float};
 ghost use Rattle.style.specs.Style.{plane_of, style_at};
-ghost use Rattle.reader.specs.Reader.{Reads, style_in};
+ghost use Rattle.reader.specs.Reader.{style_in, style_of};
 ghost use Rattle.steps.specs.Stack.{neg_opt, offset_x, relative_offset, offset_by, item_of, asked_width, asked_height, child_input, question_to};
 ghost use Rattle.stacking.specs.Footing.{footing_of};
 
 use crate::{Footing, Plan, container_inner_width};
-use geometry::Point;
-use length::{AvailableSpace, LengthRect};
+use geometry::{Point, Rect, Size};
+use length::{AvailableSpace, Length, MaybeResolve, ResolveOrZero};
 use reader::Reader;
 use steps::{BlockItem, Frame, LayoutInput};
 use style::Position;
-use util::{OptionF32, OptionSize};
+use util::MaybeMath;
 
-fn negated(o: OptionF32) -> OptionF32
+#[tactic(auto, unfolding(steps::specs::Stack::neg_opt))]
+fn negated(o: Option<f32>) -> Option<f32>
     ensures { result ≡ neg_opt o }
 {
-    match o {
-        OptionF32::None => OptionF32::None,
-        OptionF32::Some(x) => OptionF32::Some(-x),
-    }
+    o.map(|x| -x)
 }
 
-fn offset_x(left: OptionF32, right: OptionF32, rtl: bool) -> f32
+fn offset_x(left: Option<f32>, right: Option<f32>, rtl: bool) -> f32
     ensures { result ≡ offset_x left right rtl }
 {
     if rtl {
-        negated(right).or(left).or_zero()
+        negated(right).or(left).unwrap_or(0.0)
     } else {
-        left.or(negated(right)).or_zero()
+        left.or(negated(right)).unwrap_or(0.0)
     }
 }
 
-fn resolve_relative_offset(i: LengthRect, rtl: bool, basis: OptionF32, height: OptionF32) -> Point
+fn resolve_relative_offset(
+    i: Rect<Length>,
+    rtl: bool,
+    basis: Option<f32>,
+    height: Option<f32>,
+) -> Point<f32>
     ensures { result ≡ relative_offset i rtl basis height }
 {
     let top = i.top;
@@ -40,18 +43,21 @@ fn resolve_relative_offset(i: LengthRect, rtl: bool, basis: OptionF32, height: O
     let bottom = i.bottom;
     let left = i.left;
     Point {
-        x: offset_x(
-            length::maybe_resolve(left, basis),
-            length::maybe_resolve(right, basis),
-            rtl,
-        ),
-        y: length::maybe_resolve(top, height)
-            .or(negated(length::maybe_resolve(bottom, height)))
-            .or_zero(),
+        x: offset_x(left.maybe_resolve(basis), right.maybe_resolve(basis), rtl),
+        y: top
+            .maybe_resolve(height)
+            .or(negated(bottom.maybe_resolve(height)))
+            .unwrap_or(0.0),
     }
 }
 
-fn offset_by(p: Position, i: LengthRect, rtl: bool, basis: OptionF32, height: OptionF32) -> Point
+fn offset_by(
+    p: Position,
+    i: Rect<Length>,
+    rtl: bool,
+    basis: Option<f32>,
+    height: Option<f32>,
+) -> Point<f32>
     ensures { result ≡ offset_by p i rtl basis height }
 {
     match p {
@@ -62,23 +68,22 @@ fn offset_by(p: Position, i: LengthRect, rtl: bool, basis: OptionF32, height: Op
 }
 
 // A child's item, of its style.
-fn item_of(frame: Frame, r: Reader, numbers: &[f32]) -> BlockItem
-    requires { Reads r numbers.now }
-    ensures { result ≡ item_of frame (style_in r numbers.now) }
+fn item_of(frame: Frame, r: Reader) -> BlockItem
+    ensures { result ≡ item_of frame (style_of r.entry) }
 {
     let height = frame.heightBasis;
-    let margin = reader::margin(r, numbers);
+    let margin = r.margin();
     let left = margin.left;
     let right = margin.right;
     let position = style::position_of(r.style);
-    let inset = reader::inset(r, numbers);
+    let inset = r.inset();
     let inner = container_inner_width(frame);
     BlockItem {
-        sizing: sizing::sizing_of(r, numbers, OptionF32::Some(inner), height),
-        margin: margin.resolve_or_zero(OptionF32::Some(inner)),
-        left: length::is_auto(left),
-        right: length::is_auto(right),
-        offset: offset_by(position, inset, frame.rtl, OptionF32::Some(inner), height),
+        sizing: sizing::sizing_of(r, Some(inner), height),
+        margin: margin.resolve_or_zero(Some(inner)),
+        left: left.is_auto(),
+        right: right.is_auto(),
+        offset: offset_by(position, inset, frame.rtl, Some(inner), height),
     }
 }
 
@@ -101,7 +106,7 @@ fn asked_width(frame: Frame, item: BlockItem) -> f32
     )
 }
 
-fn asked_height(item: BlockItem) -> OptionF32
+fn asked_height(item: BlockItem) -> Option<f32>
     ensures { result ≡ asked_height item }
 {
     let z = item.sizing;
@@ -117,18 +122,18 @@ fn asked_height(item: BlockItem) -> OptionF32
 
 // The final question that a container puts to a child, of its item.
 fn child_input(frame: Frame, r: Reader, item: BlockItem) -> LayoutInput
-    ensures { (xs : List Float) → result ≡ child_input frame (style_in r xs) item }
+    ensures { (xs : List Float) → result ≡ child_input frame (style_in r.entry xs) item }
 {
-    let plain = frames::is_in_same_bfc(r);
+    let plain = frames::is_in_same_bfc(r.style);
     let basis = frame.heightBasis;
     let width = asked_width(frame, item);
-    let known = OptionSize {
-        width: OptionF32::Some(width),
+    let known = Size {
+        width: Some(width),
         height: asked_height(item),
     };
     LayoutInput {
         known,
-        parent: OptionF32::Some(container_inner_width(frame)),
+        parent: Some(container_inner_width(frame)),
         basis,
         definiteHeight: true,
         available: AvailableSpace::MaxContent,
@@ -158,8 +163,8 @@ pub fn plan_at(words: &[u32], numbers: &[f32], base: usize, frame: Frame) -> Pla
     ensures input { result.input ≡ question_to frame (style_at words.now 0 numbers.now base) }
     ensures footing { result.footing ≡ footing_of (item_of frame (style_at words.now 0 numbers.now base)) }
 {
-    let r = reader::reader_at(words, numbers, base);
-    let i = item_of(frame, r, numbers);
+    let r = Reader::at(words, numbers, base);
+    let i = item_of(frame, r);
     Plan {
         input: child_input(frame, r, i),
         footing: footing_of(i),

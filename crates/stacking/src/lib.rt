@@ -14,15 +14,14 @@ use geometry::{Line, Point, Rect};
 use margin::CollapsibleMarginSet;
 use steps::{Cursor, Frame, LayoutInput, LayoutOutput};
 use tree::Order;
-use util::OptionF32;
 
 // What is held of a child while it is laid out: margins (auto counts 0), which side margins are auto, the relative offset.
 #[derive(Clone, Copy)]
 pub struct Footing {
-    pub margin: Rect,
+    pub margin: Rect<f32>,
     pub left: bool,
     pub right: bool,
-    pub offset: Point,
+    pub offset: Point<f32>,
 }
 
 // A child's question, and its footing.
@@ -49,7 +48,7 @@ pub fn start_of(frame: Frame) -> Cursor
         top: CollapsibleMarginSet::zero(),
         first: true,
         allThrough: true,
-        baseline: OptionF32::None,
+        baseline: None,
         shown: Order(0),
         count: 0,
     }
@@ -129,7 +128,7 @@ fn place_y(frame: Frame, cursor: Cursor, footing: Footing, answer: LayoutOutput)
 }
 
 // Where a child stands.
-pub fn place_of(frame: Frame, cursor: Cursor, footing: Footing, answer: LayoutOutput) -> Point
+pub fn place_of(frame: Frame, cursor: Cursor, footing: Footing, answer: LayoutOutput) -> Point<f32>
     ensures { (z : Sizing) → result ≡ place_of frame cursor (item_with z footing) answer }
 {
     let size = answer.size;
@@ -150,7 +149,7 @@ fn past_through(
     cursor: Cursor,
     t: CollapsibleMarginSet,
     b: CollapsibleMarginSet,
-    baseline: OptionF32,
+    baseline: Option<f32>,
 ) -> Cursor
     requires { Counts cursor }
     ensures { result ≡ past_through cursor t b baseline }
@@ -186,7 +185,7 @@ fn past_box(
     t: CollapsibleMarginSet,
     b: CollapsibleMarginSet,
     h: f32,
-    baseline: OptionF32,
+    baseline: Option<f32>,
 ) -> Cursor
     requires { Counts cursor }
     ensures { result ≡ past_box frame cursor t b h baseline }
@@ -207,24 +206,29 @@ fn past_box(
 }
 
 // A child's baseline in its container: its place is worked out only where it has one.
-fn baseline_at(frame: Frame, cursor: Cursor, footing: Footing, answer: LayoutOutput) -> OptionF32
+fn baseline_at(frame: Frame, cursor: Cursor, footing: Footing, answer: LayoutOutput) -> Option<f32>
     ensures { (z : Sizing) → result ≡ at_place (place_y frame cursor (item_with z footing) answer) answer.baseline }
 {
     let own = answer.baseline;
     match own {
-        OptionF32::None => OptionF32::None,
-        OptionF32::Some(b) => OptionF32::Some(place_y(frame, cursor, footing, answer) + b),
+        None => None,
+        Some(b) => Some(place_y(frame, cursor, footing, answer) + b),
     }
 }
 
 // The first baseline past a child.
-fn baseline_past(frame: Frame, cursor: Cursor, footing: Footing, answer: LayoutOutput) -> OptionF32
+fn baseline_past(
+    frame: Frame,
+    cursor: Cursor,
+    footing: Footing,
+    answer: LayoutOutput,
+) -> Option<f32>
     ensures { (z : Sizing) → result ≡ baseline_past cursor.baseline (place_y frame cursor (item_with z footing) answer) answer.baseline }
 {
     let first = cursor.baseline;
     match first {
-        OptionF32::None => baseline_at(frame, cursor, footing, answer),
-        OptionF32::Some(b) => OptionF32::Some(b),
+        None => baseline_at(frame, cursor, footing, answer),
+        Some(b) => Some(b),
     }
 }
 

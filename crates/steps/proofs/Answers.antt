@@ -1,18 +1,19 @@
 -- An answer's number on paper is one of nine.
+use Rattle.std.specs.Prelude.{Result, Ok, ℕ, Err}
+use Rattle.steps.specs.declared.Refusal.TheVariants.{Lengths, Tree, Codes, Numbers, Room, Edits, NotLaid, TooLarge}
+use Rattle.steps.specs.declared.Refusal.{Refusal}
 use Prim.Native.Nat.{◌≤◌}
 use native.Mathlib.Omega.{arith}
-use Rattle.steps.specs.Noes.{paper}
-use Rattle.steps.specs.declared.Answer.{Answer}
-use Rattle.steps.specs.declared.Answer.TheVariants.{Done, Lengths, Tree, Codes, Numbers, Room, Edits, NotLaid, TooLarge}
+use Rattle.steps.specs.Noes.{paper, refusal_paper}
 
-pub paper-nine : (a : Answer) → (paper a).0 ≤ 8
-unfolding paper
-paper-nine (Done n) = omega arith
-paper-nine Lengths = omega arith
-paper-nine (Tree i) = omega arith
-paper-nine (Codes i) = omega arith
-paper-nine (Numbers k) = omega arith
-paper-nine Room = omega arith
-paper-nine (Edits k) = omega arith
-paper-nine NotLaid = omega arith
-paper-nine (TooLarge i) = omega arith
+pub paper-nine : (a : Result ℕ Refusal) → (paper a).0 ≤ 8
+unfolding paper refusal_paper
+paper-nine (Ok n) = omega arith
+paper-nine (Err Lengths) = omega arith
+paper-nine (Err (Tree i)) = omega arith
+paper-nine (Err (Codes i)) = omega arith
+paper-nine (Err (Numbers k)) = omega arith
+paper-nine (Err Room) = omega arith
+paper-nine (Err (Edits k)) = omega arith
+paper-nine (Err NotLaid) = omega arith
+paper-nine (Err (TooLarge i)) = omega arith

@@ -1,10 +1,9 @@
 -- The width pass changes neither the page nor the old rows.
+use Rattle.std.specs.Prelude.{Option, None, Some}
 use mathlib.Core.Path.{◌≡◌, refl, ap, ◌∙◌}
 use mathlib.Core.Bool.{Bool, true, false}
 use lib.Ieee.{Float}
 use Rattle.geometry.specs.Geometry.{zero_f}
-use Rattle.util.specs.declared.OptionF32.{OptionF32}
-use Rattle.util.specs.declared.OptionF32.TheVariants.{None, Some}
 use Rattle.length.specs.declared.AvailableSpace.{AvailableSpace}
 use Rattle.tree.specs.Tree.{Tree, Forest, node, none, more, map_t, map_f}
 use Rattle.tree.proofs.Laws.{map_f_none, map_map_t, map_map_f, map_id_t, map_id_f}
@@ -39,7 +38,7 @@ asked_cells : (l : Cell) (q : ProbeInput) (a : Float) (ks : Forest Cell) (us : F
 unfolding asked probed_anew map_t
 asked_cells l q a ks us e = rw e
 
-box_cells : (l : Cell) (q : ProbeInput) (ks : Forest Cell) (w : OptionF32) (r : Widest) → map_f cell_in r.nodes ≡ ks → map_t cell_in (block_probe l q ks w r).nodes ≡ node l ks
+box_cells : (l : Cell) (q : ProbeInput) (ks : Forest Cell) (w : Option Float) (r : Widest) → map_f cell_in r.nodes ≡ ks → map_t cell_in (block_probe l q ks w r).nodes ≡ node l ks
 unfolding block_probe
 box_cells l q ks None r h = asked_cells l q _ ks _ h
 box_cells l q ks (Some w) r h = asked_cells l q w ks _ (cleared_cells_f ks)
@@ -82,7 +81,7 @@ mutual
 pub cells_ask : (t : Tree Cell) (q : ProbeInput) → map_t cell_in (ask_p t q).nodes ≡ t
 cells_ask t q = ask_cells t q (cells_t t q)
 
-page_cells : (l : Cell) (ks : Forest Cell) (w parent : OptionF32) (r : Widest) → map_f cell_in r.nodes ≡ ks → map_t cell_in (pass_by l ks w parent r).nodes ≡ node l ks
+page_cells : (l : Cell) (ks : Forest Cell) (w parent : Option Float) (r : Widest) → map_f cell_in r.nodes ≡ ks → map_t cell_in (pass_by l ks w parent r).nodes ≡ node l ks
 unfolding pass_by cleared map_t
 page_cells l ks None parent r h = rw h
 page_cells l ks (Some w) parent r h = ap (node l) (cleared_cells_f ks)

@@ -1,11 +1,10 @@
 -- The clauses of the two passes, each as an equation: proofs rewrite by these and leave the definitions shut.
+use Rattle.std.specs.Prelude.{Option, None}
 use mathlib.Core.Path.{◌≡◌, refl, ap, ◌∙◌}
 use mathlib.Core.Bool.{Bool, true, false, cond}
 use lib.Ieee.{Float}
 use Rattle.geometry.specs.Geometry.{zero_f}
 use Rattle.util.specs.Math.{larger}
-use Rattle.util.specs.declared.OptionF32.{OptionF32}
-use Rattle.util.specs.declared.OptionF32.TheVariants.{None}
 use Rattle.length.specs.declared.AvailableSpace.{AvailableSpace}
 use Rattle.style.specs.declared.Style.{Style}
 use Rattle.tree.specs.Tree.{Tree, Forest, node, none, more, map_t, map_f, root_t}
@@ -60,7 +59,7 @@ lay_t_block l ks q found e = lay_t_by l ks q found ∙ ap (λ (b : Bool). by_tes
 abbrev pub stack_of : Node → Forest Node → LayoutInput → Float → Stacked
 stack_of n ks q found = lay_f ks (frame_at n q found) (start_of (frame_at n q found))
 
-abbrev pub shift_of : Node → LayoutInput → Float → Cursor → OptionF32
+abbrev pub shift_of : Node → LayoutInput → Float → Cursor → Option Float
 shift_of n q found c = (finished n.site.style q (frame_at n q found) c).shift
 
 pub leaf_rows : (n : Node) (ks : Forest Node) (q : LayoutInput) (found : Float) → is_leaf n.site.style.kind ≡ true

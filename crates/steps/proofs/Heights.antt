@@ -1,4 +1,5 @@
 -- Percent heights, computed: which height is a basis, and that a row stands only for a question with its own.
+use Rattle.std.specs.Prelude.{Option, None, Some}
 use mathlib.Core.Path.{◌≡◌, refl}
 use mathlib.Core.Bool.{Bool, true, false}
 use mathlib.Core.List.{List, [], ◌∷◌, map}
@@ -6,8 +7,6 @@ use Prim.Native.Nat.{ℕ}
 use lib.Ieee.{Float, of_bits, to_bits, binary32}
 use Rattle.geometry.specs.Geometry.{zero_f}
 use Rattle.geometry.specs.declared.Rect.{Rect}
-use Rattle.util.specs.declared.OptionF32.{OptionF32}
-use Rattle.util.specs.declared.OptionF32.TheVariants.{None, Some}
 use Rattle.length.specs.declared.AvailableSpace.TheVariants.{MaxContent}
 use Rattle.margin.specs.Margin.{no_margins}
 use Rattle.steps.specs.Row.{Row, laid_row, no_probe}
@@ -23,17 +22,17 @@ abbrev ten : Float
 ten = of_bits binary32 0x4120_0000
 
 -- asked height, height basis, whether the asked height is definite
-abbrev asks : OptionF32 → OptionF32 → Bool → LayoutInput
+abbrev asks : Option Float → Option Float → Bool → LayoutInput
 asks height basis flag =
     record { known = record { width = Some eighty; height = height }; parent = Some eighty; basis = basis; definiteHeight = flag; available = MaxContent; collapseStart = false; collapseEnd = false; nested = true }
 
 -- nothing, or the bits
-abbrev shown : OptionF32 → List ℕ
+abbrev shown : Option Float → List ℕ
 shown None = []
 shown (Some x) = to_bits binary32 x ∷ []
 
 -- a box with an inset of ten at its top: what it is asked, whether that is definite, and its known height
-abbrev below : OptionF32 → Bool → OptionF32 → List ℕ
+abbrev below : Option Float → Bool → Option Float → List ℕ
 below height flag known = shown (basis_below (asks height None flag) (record { width = None; height = known }) (record { top = ten; right = zero_f; bottom = zero_f; left = zero_f }))
 
 -- 80 asked or not gives 70; asked and not definite gives none
@@ -52,14 +51,14 @@ unfolding steps
 not_floored = refl
 
 -- the row of a question with this basis
-abbrev noted : OptionF32 → Row
+abbrev noted : Option Float → Row
 noted basis = laid_row (asks None basis true) (record { size = record { width = eighty; height = zero_f }; top = no_margins; bottom = no_margins; through = false; baseline = None }) no_probe
 
 -- it stands for its own basis alone; a basis of 0 is not none
-pub own_basis : map (λ (b : OptionF32). final_stands (asks None b true) (noted (Some zero_f))) (Some zero_f ∷ Some ten ∷ None ∷ []) ≡ true ∷ false ∷ false ∷ []
+pub own_basis : map (λ (b : Option Float). final_stands (asks None b true) (noted (Some zero_f))) (Some zero_f ∷ Some ten ∷ None ∷ []) ≡ true ∷ false ∷ false ∷ []
 unfolding steps
 own_basis = refl
 
-pub no_basis_lem : map (λ (b : OptionF32). final_stands (asks None b true) (noted None)) (Some zero_f ∷ Some ten ∷ None ∷ []) ≡ false ∷ false ∷ true ∷ []
+pub no_basis_lem : map (λ (b : Option Float). final_stands (asks None b true) (noted None)) (Some zero_f ∷ Some ten ∷ None ∷ []) ≡ false ∷ false ∷ true ∷ []
 unfolding steps
 no_basis_lem = refl

@@ -1,10 +1,9 @@
 -- The final pass leaves a row for every node: the trees have one shape.
+use Rattle.std.specs.Prelude.{Option, None, Some}
 use mathlib.Core.Path.{◌≡◌, refl, sym, ap, ◌∙◌}
 use mathlib.Core.Bool.{Bool, true, false}
 use lib.Ieee.{Float}
 use Rattle.geometry.specs.Geometry.{zero_f}
-use Rattle.util.specs.declared.OptionF32.{OptionF32}
-use Rattle.util.specs.declared.OptionF32.TheVariants.{None, Some}
 use Rattle.tree.specs.Tree.{Tree, Forest, node, none, more, map_t, map_f, on_root}
 use Rattle.tree.proofs.Laws.{map_f_none, map_f_more, map_map_t, map_map_f}
 use Rattle.style.specs.Flow.{is_leaf, flow_of}
@@ -33,7 +32,7 @@ unfolding lower_f on_root map_t
 shape_low d none = refl
 shape_low d (more (node r ks) ts) = ap (more (map_t mute (node r ks))) (shape_low d ts)
 
-shape_align : (d : OptionF32) (ts : Forest Row) → map_f mute (align_f d ts) ≡ map_f mute ts
+shape_align : (d : Option Float) (ts : Forest Row) → map_f mute (align_f d ts) ≡ map_f mute ts
 unfolding align_f
 shape_align None ts = refl
 shape_align (Some d) ts = shape_low d ts

@@ -4,12 +4,10 @@
 --   I  an edge adjoins                                             adjoins; own start: adjoins; own end: own_end_of
 --   I  a child's two flags                                         child_input (Stack)
 -- I, whole: step_i. A, B, D, E and I of a container, whole: frame_of.
-use Rattle.std.specs.Prelude.{Bool, not, ◌&&◌, Float}
+use Rattle.geometry.specs.declared.Size.{Size}
+use Rattle.std.specs.Prelude.{Bool, not, ◌&&◌, Float, Option, is_some, unwrap_or}
 use Rattle.std.specs.Float.Ieee.{eq}
 use Rattle.geometry.specs.Geometry.{zero_f, down}
-use Rattle.util.specs.Maybe.{is_some, unwrap_or}
-use Rattle.util.specs.declared.OptionF32.{OptionF32}
-use Rattle.util.specs.declared.OptionSize.{OptionSize}
 use Rattle.style.specs.declared.Style.{Style}
 use Rattle.steps.specs.Sizing.{sizing_of, known_of, insets}
 use Rattle.steps.specs.HeightBasis.{basis_below}
@@ -24,11 +22,11 @@ unfoldable pub adjoins : Style → Bool → Float → Float → Bool
 adjoins s flag padding border = flag && (plain_block s && (eq padding zero_f && eq border zero_f))
 
 -- I: own end = end adjoins and A gave no height
-unfoldable pub own_end_of : Style → Bool → Float → Float → OptionF32 → Bool
+unfoldable pub own_end_of : Style → Bool → Float → Float → Option Float → Bool
 own_end_of s flag padding border height = adjoins s flag padding border && not (is_some height)
 
 -- I, with A's padding and border
-unfoldable pub step_i : Style → LayoutInput → Sizing → OptionSize → Float → Frame
+unfoldable pub step_i : Style → LayoutInput → Sizing → Size (Option Float) → Float → Frame
 step_i s q z known width =
     record {
       width = width;

@@ -3,14 +3,11 @@
 --   L  height: known, else clamped content; floored                whole: step_l
 --   L  own end is dropped if min-height > 0 and >= height          held_open, still_own_end
 --   M  free space, and the shift that align makes of it            whole: step_m; each row: lowered (Row)
-use Rattle.std.specs.Prelude.{Bool, true, false, cond, not, ◌&&◌, ◌||◌, Float}
+use Rattle.std.specs.Prelude.{Bool, true, false, cond, not, ◌&&◌, ◌||◌, Float, Option, None, Some, unwrap_or}
 use Rattle.std.specs.Float.Ieee.{lt, le}
 use Rattle.geometry.specs.Floats.{◌⊕◌, ◌⊖◌}
 use Rattle.geometry.specs.Geometry.{zero_f, down}
 use Rattle.util.specs.Math.{larger, clamped}
-use Rattle.util.specs.Maybe.{unwrap_or}
-use Rattle.util.specs.declared.OptionF32.{OptionF32}
-use Rattle.util.specs.declared.OptionF32.TheVariants.{None, Some}
 use Rattle.style.specs.declared.Style.{Style}
 use Rattle.margin.specs.Margin.{sum_of}
 use Rattle.alignment.specs.Align.{align_shift}
@@ -31,7 +28,7 @@ unfoldable pub step_l : Frame → Float → Float
 step_l f content = larger (unwrap_or f.height (clamped content f.minHeight f.maxHeight)) f.floor
 
 -- L: min-height > 0 and >= height
-unfoldable pub held_open : OptionF32 → Float → Bool
+unfoldable pub held_open : Option Float → Float → Bool
 held_open None height = false
 held_open (Some lo) height = lt zero_f lo && le height lo
 
@@ -40,5 +37,5 @@ unfoldable pub still_own_end : Frame → Float → Bool
 still_own_end f height = f.ownEnd && not (held_open f.minHeight height)
 
 -- M: free = (height - insets) - (content - insets)
-unfoldable pub step_m : Style → Frame → Float → Float → OptionF32
+unfoldable pub step_m : Style → Frame → Float → Float → Option Float
 step_m s f height content = align_shift s.align s.safe ((height ⊖ down f.inset) ⊖ (content ⊖ down f.inset))

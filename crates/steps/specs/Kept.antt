@@ -1,8 +1,8 @@
 -- Kept nodes: when an old answer stands, and what a kept row and the rows below it hold.
-use Rattle.std.specs.Prelude.{Bool, true, false, cond, not, ◌&&◌, ℕ, ◌+◌, ◌*◌, ◌/◌, ◌%◌, Float}
+use Rattle.std.specs.Prelude.{Bool, true, false, cond, not, ◌&&◌, ℕ, ◌+◌, ◌*◌, ◌/◌, ◌%◌, Float, is_some}
 use Rattle.std.specs.Bool.{beq}
 use Rattle.limits.specs.Limits.{same_f}
-use Rattle.util.specs.Maybe.{or_zero, is_some}
+use Rattle.util.specs.Maybe.{or_zero}
 use Rattle.style.specs.Codes.{flag_at}
 use Rattle.tree.specs.Tree.{Tree, Forest, node, none, more, map_t, map_f, root_t}
 use Rattle.style.specs.Flow.{flow_of}

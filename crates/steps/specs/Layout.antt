@@ -4,11 +4,9 @@
 --   M: the shift on each child's row                               lower_f, align_f
 --   a child is kept or laid out                                    ask_t
 -- both passes: relaid; of a page without rows: fresh.
-use Rattle.std.specs.Prelude.{Bool, true, false, cond, ℕ, Float}
+use Rattle.std.specs.Prelude.{Bool, true, false, cond, ℕ, Float, Option, None, Some}
 use Rattle.geometry.specs.Geometry.{zero_f}
 use Rattle.geometry.specs.declared.Point.{Point}
-use Rattle.util.specs.declared.OptionF32.{OptionF32}
-use Rattle.util.specs.declared.OptionF32.TheVariants.{None, Some}
 use Rattle.style.specs.declared.Style.{Style}
 use Rattle.tree.specs.Tree.{Tree, Forest, node, none, more, map_t, root_t, on_root}
 use Rattle.style.specs.Flow.{is_leaf, flow_of}
@@ -36,7 +34,7 @@ unfoldable pub lower_f : Float → Forest Row → Forest Row
 lower_f d none = none
 lower_f d (more t ts) = more (on_root (lowered d) t) (lower_f d ts)
 
-unfoldable pub align_f : OptionF32 → Forest Row → Forest Row
+unfoldable pub align_f : Option Float → Forest Row → Forest Row
 align_f None ts = ts
 align_f (Some d) ts = lower_f d ts
 

@@ -1,11 +1,12 @@
 -- The eight noes: for each the test of one node (or of the whole), in the words of document 01, and its place.
-use Rattle.std.specs.Prelude.{Bool, true, false, cond, not, ◌&&◌, ◌||◌, List, [], ◌∷◌, ℕ, zero, suc, ◌+◌, ◌*◌, ◌-◌, ◌/◌, min, length, get_or, eqb, ltb, leb, Float}
+use Rattle.steps.specs.declared.Refusal.TheVariants.{Lengths, Tree, Codes, Numbers, Room, Edits, NotLaid, TooLarge}
+use Rattle.steps.specs.declared.Refusal.{Refusal}
+use Rattle.tree.specs.declared.NodeId.{NodeId}
+use Rattle.std.specs.Prelude.{Bool, true, false, cond, not, ◌&&◌, ◌||◌, List, [], ◌∷◌, ℕ, zero, suc, ◌+◌, ◌*◌, ◌-◌, ◌/◌, min, length, get_or, eqb, ltb, leb, Float, Option, None, Some, Result, Ok, Err, ⊤}
 use Rattle.std.specs.Float.Ieee.{eq, lt, neg, of_bits}
 use Rattle.std.specs.Float.{binary32}
 use Rattle.geometry.specs.Geometry.{zero_f}
 use Rattle.limits.specs.Limits.{in_range, too_large}
-use Rattle.util.specs.declared.OptionF32.{OptionF32}
-use Rattle.util.specs.declared.OptionF32.TheVariants.{None, Some}
 use Rattle.length.specs.Available.{definite}
 use Rattle.style.specs.Codes.{code_at, distribution_at, clear_from, flag_at, unit_of}
 use Rattle.style.specs.Style.{word_at, number_at}
@@ -13,34 +14,30 @@ use Rattle.steps.specs.Scan.{scan, lowest, first_of, some, how_many}
 use Rattle.steps.specs.Page.{nodes_in, page_of}
 use Rattle.steps.specs.Candidates.{needed}
 use Rattle.steps.specs.declared.LayoutInput.{LayoutInput}
-use Rattle.steps.specs.declared.Answer.{Answer}
-use Rattle.steps.specs.declared.Answer.TheVariants.{Done, Lengths, Tree, Codes, Numbers, Room, Edits, NotLaid, TooLarge}
-use Rattle.steps.specs.declared.Tested.{Tested}
-use Rattle.steps.specs.declared.Tested.TheVariants.{Pass, Refuse}
-use Rattle.steps.specs.declared.Found.{Found}
-use Rattle.steps.specs.declared.Found.TheVariants.{Nowhere, At}
-use Rattle.steps.specs.declared.Spot.{Spot}
-use Rattle.steps.specs.declared.Spot.TheVariants as spot
 
--- this paper's number and place of each answer
-unfoldable pub paper : Answer → ℕ × ℕ
-paper (Done n) = (0, n)
-paper Lengths = (1, 0)
-paper (Tree i) = (2, i.0)
-paper (Codes i) = (3, i.0)
-paper (Numbers k) = (4, k)
-paper Room = (5, 0)
-paper (Edits k) = (6, k)
-paper NotLaid = (7, 0)
-paper (TooLarge i) = (8, i.0)
+-- this paper's number and place of each refusal
+unfoldable pub refusal_paper : Refusal → ℕ × ℕ
+refusal_paper Lengths = (1, 0)
+refusal_paper (Tree i) = (2, i.0)
+refusal_paper (Codes i) = (3, i.0)
+refusal_paper (Numbers k) = (4, k)
+refusal_paper Room = (5, 0)
+refusal_paper (Edits k) = (6, k)
+refusal_paper NotLaid = (7, 0)
+refusal_paper (TooLarge i) = (8, i.0)
+
+-- and of each answer: 0 and the count, or the refusal's
+unfoldable pub paper : Result ℕ Refusal → ℕ × ℕ
+paper (Ok n) = (0, n)
+paper (Err a) = refusal_paper a
 
 -- a test that refuses, and tests in order
-abbrev pub refuse_if : Bool → Answer → Tested
-refuse_if b a = cond b (Refuse a) Pass
+abbrev pub refuse_if : Bool → Refusal → Result ⊤ Refusal
+refuse_if b a = cond b (Err a) (Ok tt)
 
-unfoldable pub and_then : Tested → Tested → Tested
-and_then Pass r = r
-and_then (Refuse a) r = Refuse a
+unfoldable pub and_then : Result ⊤ Refusal → Result ⊤ Refusal → Result ⊤ Refusal
+and_then (Ok _) r = r
+and_then (Err a) r = Err a
 
 -- 1: no node, over 1,024, or slice lengths not 4n and 28n (and 16n, 2n)
 unfoldable pub bad_tables : List ℕ → List Float → Bool
@@ -154,7 +151,7 @@ bad_numbers ws xs i =
     || (bad_pixels (number_at xs i 26) || (lt (number_at xs i 25) (number_at xs i 24) || not (in_range (number_at xs i 27) zero_f (number_at xs i 26))))))))
 
 -- 4: else a question number so
-unfoldable pub bad_option : OptionF32 → Bool
+unfoldable pub bad_option : Option Float → Bool
 bad_option None = false
 bad_option (Some x) = bad_pixels x
 
@@ -174,48 +171,48 @@ unfoldable pub bad_row : List Float → ℕ → Bool
 bad_row rs i = some (λ k. too_large (get_or rs (16 * i + k) zero_f)) 16
 
 -- a node at fault refuses
-unfoldable pub at_fault : (ℕ → Answer) → Found → Tested
-at_fault a Nowhere = Pass
-at_fault a (At i) = Refuse (a i.0)
+unfoldable pub at_fault : (ℕ → Refusal) → Option NodeId → Result ⊤ Refusal
+at_fault a None = Ok tt
+at_fault a (Some i) = Err (a i.0)
 
 -- an edit at fault refuses
-unfoldable pub at_spot : Spot → Tested
-at_spot spot.Nowhere = Pass
-at_spot (spot.At k) = Refuse (Edits k)
+unfoldable pub at_spot : Option ℕ → Result ⊤ Refusal
+at_spot None = Ok tt
+at_spot (Some k) = Err (Edits k)
 
 -- The tests in order, each with its place.
-unfoldable pub no2 : List ℕ → Tested
+unfoldable pub no2 : List ℕ → Result ⊤ Refusal
 no2 ws = at_fault (λ i. Tree (record { 0 = i })) (lowest (bad_tree ws) (nodes_in ws))
 
 -- 3 by a test of one node: the words alone, or the numbers too
-abbrev pub no3_by : (ℕ → Bool) → List ℕ → Tested
+abbrev pub no3_by : (ℕ → Bool) → List ℕ → Result ⊤ Refusal
 no3_by bad ws = at_fault (λ i. Codes (record { 0 = i })) (lowest bad (nodes_in ws))
 
-unfoldable pub no3 : List ℕ → List Float → Tested
+unfoldable pub no3 : List ℕ → List Float → Result ⊤ Refusal
 no3 ws xs = no3_by (bad_style ws xs) ws
 
-unfoldable pub no4 : List ℕ → List Float → LayoutInput → Tested
+unfoldable pub no4 : List ℕ → List Float → LayoutInput → Result ⊤ Refusal
 no4 ws xs q = and_then (at_fault Numbers (lowest (bad_numbers ws xs) (nodes_in ws))) (refuse_if (bad_question q) (Numbers (nodes_in ws)))
 
-unfoldable pub no5 : List ℕ → List Float → List ℕ → List Float → Tested
+unfoldable pub no5 : List ℕ → List Float → List ℕ → List Float → Result ⊤ Refusal
 no5 ws xs cw cx = refuse_if (ltb (records_in cw cx) (needed (page_of ws xs []))) Room
 
-unfoldable pub no6 : List ℕ → ℕ → Tested
+unfoldable pub no6 : List ℕ → ℕ → Result ⊤ Refusal
 no6 es n = and_then (at_spot (first_of (bad_edit es n) (min 64 (length es)))) (refuse_if (ltb 64 (length es)) (Edits 64))
 
-unfoldable pub no7 : List ℕ → Tested
+unfoldable pub no7 : List ℕ → Result ⊤ Refusal
 no7 ms = refuse_if (not (flag_at (get_or ms 1 0) 0)) NotLaid
 
 -- 2 to 4, which every call tests
-unfoldable pub page_tested : List ℕ → List Float → LayoutInput → Tested
+unfoldable pub page_tested : List ℕ → List Float → LayoutInput → Result ⊤ Refusal
 page_tested ws xs q = and_then (no2 ws) (and_then (no3 ws xs) (no4 ws xs q))
 
-unfoldable pub layout_tested : List ℕ → List Float → List Float → List ℕ → List ℕ → List Float → LayoutInput → Tested
+unfoldable pub layout_tested : List ℕ → List Float → List Float → List ℕ → List ℕ → List Float → LayoutInput → Result ⊤ Refusal
 layout_tested ws xs rs ms cw cx q =
     and_then (refuse_if (bad_tables ws xs || bad_rows ws rs ms) Lengths) (and_then (page_tested ws xs q) (no5 ws xs cw cx))
 
-unfoldable pub relayout_tested : List ℕ → List Float → List Float → List ℕ → List ℕ → List Float → List ℕ → LayoutInput → Tested
+unfoldable pub relayout_tested : List ℕ → List Float → List Float → List ℕ → List ℕ → List Float → List ℕ → LayoutInput → Result ⊤ Refusal
 relayout_tested ws xs rs ms cw cx es q = and_then (layout_tested ws xs rs ms cw cx q) (and_then (no6 es (nodes_in ws)) (no7 ms))
 
-unfoldable pub size_tested : List ℕ → List Float → LayoutInput → Tested
+unfoldable pub size_tested : List ℕ → List Float → LayoutInput → Result ⊤ Refusal
 size_tested ws xs q = and_then (refuse_if (bad_tables ws xs) Lengths) (page_tested ws xs q)

@@ -5,15 +5,13 @@
 --   F: then add insets, clamp, larger with padding+border          found_width
 --   a probed block: A, B, D, then F                                probe_known, block_probe; a probe put anew: probe_t
 -- F, whole, of the page: width_pass.
-use Rattle.std.specs.Prelude.{Bool, true, false, cond, not, ◌&&◌, ℕ, ◌/◌, ◌%◌, eqb, Float}
+use Rattle.geometry.specs.declared.Size.{Size}
+use Rattle.std.specs.Prelude.{Bool, true, false, cond, not, ◌&&◌, ℕ, ◌/◌, ◌%◌, eqb, Float, Option, None, Some, is_some}
 use Rattle.std.specs.Bool.{beq}
 use Rattle.geometry.specs.Geometry.{zero_f, across}
 use Rattle.limits.specs.Limits.{same_f}
 use Rattle.util.specs.Math.{larger}
-use Rattle.util.specs.Maybe.{or_zero, is_some}
-use Rattle.util.specs.declared.OptionF32.{OptionF32}
-use Rattle.util.specs.declared.OptionF32.TheVariants.{None, Some}
-use Rattle.util.specs.declared.OptionSize.{OptionSize}
+use Rattle.util.specs.Maybe.{or_zero}
 use Rattle.length.specs.Available.{available_less, definite}
 use Rattle.length.specs.declared.AvailableSpace.{AvailableSpace}
 use Rattle.style.specs.Codes.{flag_at}
@@ -52,22 +50,22 @@ pub record Widest : Type 0 where
   pub nodes : Forest Node
 
 -- the known sizes of a probed block: no width asked, no parent width
-unfoldable pub probe_known : Style → ProbeInput → OptionSize
+unfoldable pub probe_known : Style → ProbeInput → Size (Option Float)
 probe_known s q = known_of s (step_a s None) (record { width = None; height = q.height })
 
 -- F: a definite available width first loses the insets
-unfoldable pub space_in : Style → OptionF32 → AvailableSpace → AvailableSpace
+unfoldable pub space_in : Style → Option Float → AvailableSpace → AvailableSpace
 space_in s parent a = available_less a (across (insets s (step_a s parent).both))
 
 -- F: the width that the widest child gives
-unfoldable pub found_width : Style → OptionF32 → Float → Float
+unfoldable pub found_width : Style → Option Float → Float → Float
 found_width s parent most = content_width (step_a s parent) (insets s (step_a s parent).both) most
 
 unfoldable pub asked : Cell → ProbeInput → Float → Forest Node → Probed
 asked l q answer ks = record { answer = answer; nodes = node (probed_anew l (probe_note q answer)) ks }
 
 -- a probed block: a width that B or D gives, else F
-unfoldable pub block_probe : Cell → ProbeInput → Forest Cell → OptionF32 → Widest → Probed
+unfoldable pub block_probe : Cell → ProbeInput → Forest Cell → Option Float → Widest → Probed
 block_probe l q ks (Some w) r = asked l q w (map_f cleared ks)
 block_probe l q ks None r = asked l q (found_width l.site.style None r.most) r.nodes
 
@@ -108,7 +106,7 @@ pub record Passed : Type 0 where
   pub found : Float
   pub nodes : Tree Node
 
-unfoldable pub pass_by : Cell → Forest Cell → OptionF32 → OptionF32 → Widest → Passed
+unfoldable pub pass_by : Cell → Forest Cell → Option Float → Option Float → Widest → Passed
 pass_by l ks (Some w) parent r = record { found = zero_f; nodes = node (cleared l) (map_f cleared ks) }
 pass_by l ks None parent r = record { found = found_width l.site.style parent r.most; nodes = node (cleared l) r.nodes }
 

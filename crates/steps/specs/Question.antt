@@ -1,6 +1,5 @@
 -- What a caller asks of a page, as the root is asked it: with a parent width, no height basis, and not below anything.
-use Rattle.std.specs.Prelude.{false}
-use Rattle.util.specs.declared.OptionF32.TheVariants.{None, Some}
+use Rattle.std.specs.Prelude.{false, None, Some}
 use Rattle.steps.specs.declared.Question.{Question}
 use Rattle.steps.specs.declared.LayoutInput.{LayoutInput}
 

@@ -1,11 +1,10 @@
 -- A result row: 16 numbers, order and bits, in groups. Of an out-of-flow child, place and width hold start, line and end.
-use Rattle.std.specs.Prelude.{Bool, true, false, cond, ◌||◌, List, [], ◌∷◌, ℕ, ◌+◌, ◌*◌, ◌/◌, ◌%◌, get_or, Float}
+use Rattle.std.specs.Prelude.{Bool, true, false, cond, ◌||◌, List, [], ◌∷◌, ℕ, ◌+◌, ◌*◌, ◌/◌, ◌%◌, get_or, Float, None, Some, is_some}
 use Rattle.geometry.specs.Floats.{◌⊕◌}
 use Rattle.geometry.specs.Geometry.{zero_f}
 use Rattle.geometry.specs.declared.Point.{Point}
 use Rattle.geometry.specs.declared.Size.{Size}
-use Rattle.util.specs.Maybe.{or_zero, is_some}
-use Rattle.util.specs.declared.OptionF32.TheVariants.{None, Some}
+use Rattle.util.specs.Maybe.{or_zero}
 use Rattle.length.specs.Available.{definite}
 use Rattle.length.specs.declared.AvailableSpace.{AvailableSpace}
 use Rattle.length.specs.declared.AvailableSpace.TheVariants.{Definite, MinContent, MaxContent}
@@ -18,7 +17,7 @@ use Rattle.steps.specs.declared.ProbeInput.{ProbeInput}
 
 -- numbers 2-7 and 15: the size, the top set, the bottom set, the first baseline
 pub record RowAnswer : Type 0 where
-  pub size : Size
+  pub size : Size Float
   pub top : CollapsibleMarginSet
   pub bottom : CollapsibleMarginSet
   pub baseline : Float
@@ -38,7 +37,7 @@ pub record RowProbe : Type 0 where
 
 -- numbers 0-1 are the place
 pub record Row : Type 0 where
-  pub place : Point
+  pub place : Point Float
   pub answer : RowAnswer
   pub asked : RowAsked
   pub probe : RowProbe
@@ -139,7 +138,7 @@ unfoldable pub noted : Row → ProbeWords → ℕ → Row
 noted r p bits = record { place = r.place; answer = r.answer; asked = r.asked; probe = p.numbers; order = r.order; bits = bits }
 
 -- a row that is zero but for place, width, order and bits
-unfoldable pub bare : Point → Float → ℕ → ℕ → Row
+unfoldable pub bare : Point Float → Float → ℕ → ℕ → Row
 bare place width order bits =
     record {
       place = place;
@@ -150,7 +149,7 @@ bare place width order bits =
       bits = bits;
     }
 
-abbrev pub origin : Point
+abbrev pub origin : Point Float
 origin = record { x = zero_f; y = zero_f }
 
 -- a row of zeros
@@ -195,7 +194,7 @@ output_in r =
     }
 
 -- a row put at its place among its siblings
-unfoldable pub put_at : Point → ℕ → Row → Row
+unfoldable pub put_at : Point Float → ℕ → Row → Row
 put_at p order r = record { place = p; answer = r.answer; asked = r.asked; probe = r.probe; order = order; bits = r.bits }
 
 -- M: the shift on a place y or a line; rows that are neither laid nor out of flow stay

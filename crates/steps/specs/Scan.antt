@@ -1,25 +1,22 @@
 -- The lowest of the first n places that a test takes.
-use Rattle.std.specs.Prelude.{Bool, true, false, cond, ◌||◌, ℕ, zero, suc, ◌+◌}
-use Rattle.steps.specs.declared.Found.{Found}
-use Rattle.steps.specs.declared.Found.TheVariants.{Nowhere, At}
-use Rattle.steps.specs.declared.Spot.{Spot}
-use Rattle.steps.specs.declared.Spot.TheVariants as spot
+use Rattle.tree.specs.declared.NodeId.{NodeId}
+use Rattle.std.specs.Prelude.{Bool, true, false, cond, ◌||◌, ℕ, zero, suc, ◌+◌, Option, None, Some}
 
 -- from place i on, n places
 unfoldable pub scan : {A : Type 0} → (ℕ → Bool) → (ℕ → A) → A → ℕ → ℕ → A
 scan p hit none i zero = none
 scan p hit none i (suc n) = elim (p i) [ true ↦ hit i | false ↦ scan p hit none (i + 1) n ]
 
-abbrev pub at_node : ℕ → Found
-at_node i = At (record { 0 = i })
+abbrev pub at_node : ℕ → Option NodeId
+at_node i = Some (record { 0 = i })
 
 -- the lowest node below n at fault
-abbrev pub lowest : (ℕ → Bool) → ℕ → Found
-lowest p n = scan p at_node Nowhere 0 n
+abbrev pub lowest : (ℕ → Bool) → ℕ → Option NodeId
+lowest p n = scan p at_node None 0 n
 
 -- the first index below n at fault
-abbrev pub first_of : (ℕ → Bool) → ℕ → Spot
-first_of p n = scan p spot.At spot.Nowhere 0 n
+abbrev pub first_of : (ℕ → Bool) → ℕ → Option ℕ
+first_of p n = scan p Some None 0 n
 
 -- some place below n
 abbrev pub some : (ℕ → Bool) → ℕ → Bool

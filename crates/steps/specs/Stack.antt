@@ -5,7 +5,9 @@
 --   through, or else: strut, top set, y; the first baseline         past_through, past_box; the next cursor: stepped
 --   an out-of-flow child's line, start and end                     line_of, edges_of; past_aside, past_hidden
 -- J, whole: lay_f (Layout), from start_of on, with place, aside and skip for the three kinds of children.
-use Rattle.std.specs.Prelude.{Bool, true, false, cond, not, ◌&&◌, ◌+◌, ◌<◌, Float}
+use Rattle.std.specs.Option.{option_or}
+use Rattle.length.specs.declared.Length.{Length}
+use Rattle.std.specs.Prelude.{Bool, true, false, cond, not, ◌&&◌, ◌+◌, ◌<◌, Float, Option, None, Some, unwrap_or}
 use Rattle.std.specs.Float.Ieee.{neg}
 use Rattle.geometry.specs.Floats.{◌⊕◌, ◌⊖◌, ◌⊘◌}
 use Rattle.geometry.specs.Geometry.{zero_f, across, down}
@@ -13,12 +15,9 @@ use Rattle.geometry.specs.declared.Point.{Point}
 use Rattle.geometry.specs.declared.Line.{Line}
 use Rattle.geometry.specs.declared.Rect.{Rect}
 use Rattle.util.specs.Math.{larger, clamped}
-use Rattle.util.specs.Maybe.{unwrap_or, or_zero, or_else, clamp_opt, floor_opt}
-use Rattle.util.specs.declared.OptionF32.{OptionF32}
-use Rattle.util.specs.declared.OptionF32.TheVariants.{None, Some}
+use Rattle.util.specs.Maybe.{or_zero, clamp_opt, floor_opt}
 use Rattle.length.specs.Length.{resolved, resolved_rect, is_auto}
 use Rattle.length.specs.declared.AvailableSpace.TheVariants.{MaxContent}
-use Rattle.length.specs.declared.LengthRect.{LengthRect}
 use Rattle.style.specs.declared.Position.{Position}
 use Rattle.style.specs.declared.Position.TheVariants.{Static, Relative, Absolute}
 use Rattle.style.specs.declared.Style.{Style}
@@ -42,23 +41,23 @@ inner_width f = f.width ⊖ across f.inset
 unfoldable pub start_of : Frame → Cursor
 start_of f = record { y = f.inset.top; strut = no_margins; top = no_margins; first = true; allThrough = true; baseline = None; shown = record { 0 = 0 }; count = 0 }
 
-unfoldable pub neg_opt : OptionF32 → OptionF32
+unfoldable pub neg_opt : Option Float → Option Float
 neg_opt None = None
 neg_opt (Some x) = Some (neg x)
 
 -- left else -right, in RTL -right else left
-unfoldable pub offset_x : OptionF32 → OptionF32 → Bool → Float
-offset_x left right rtl = cond rtl (or_zero (or_else (neg_opt right) left)) (or_zero (or_else left (neg_opt right)))
+unfoldable pub offset_x : Option Float → Option Float → Bool → Float
+offset_x left right rtl = cond rtl (or_zero (option_or (neg_opt right) left)) (or_zero (option_or left (neg_opt right)))
 
 -- the offset of a relative box; y is top else -bottom, against the height basis
-unfoldable pub relative_offset : LengthRect → Bool → OptionF32 → OptionF32 → Point
+unfoldable pub relative_offset : Rect Length → Bool → Option Float → Option Float → Point Float
 relative_offset i rtl basis height =
     record {
       x = offset_x (resolved i.left basis) (resolved i.right basis) rtl;
-      y = or_zero (or_else (resolved i.top height) (neg_opt (resolved i.bottom height)));
+      y = or_zero (option_or (resolved i.top height) (neg_opt (resolved i.bottom height)));
     }
 
-unfoldable pub offset_by : Position → LengthRect → Bool → OptionF32 → OptionF32 → Point
+unfoldable pub offset_by : Position → Rect Length → Bool → Option Float → Option Float → Point Float
 offset_by Static i rtl basis height = record { x = zero_f; y = zero_f }
 offset_by Relative i rtl basis height = relative_offset i rtl basis height
 offset_by Absolute i rtl basis height = record { x = zero_f; y = zero_f }
@@ -81,7 +80,7 @@ asked_width f i =
     larger (clamped width i.sizing.min.width i.sizing.max.width) (across i.sizing.both)
 
 -- a height is asked only if the size has one
-unfoldable pub asked_height : BlockItem → OptionF32
+unfoldable pub asked_height : BlockItem → Option Float
 asked_height i = floor_opt (clamp_opt i.sizing.size.height i.sizing.min.height i.sizing.max.height) (down i.sizing.both)
 
 -- the question put to a child: both flags true if it is an in-flow block without new context; with a width known no available width is read
@@ -137,11 +136,11 @@ place_x f i w =
 unfoldable pub place_y : Frame → Cursor → BlockItem → LayoutOutput → Float
 place_y f c i o = (c.y ⊕ gap_of f c (top_margins i o)) ⊕ i.offset.y
 
-unfoldable pub place_of : Frame → Cursor → BlockItem → LayoutOutput → Point
+unfoldable pub place_of : Frame → Cursor → BlockItem → LayoutOutput → Point Float
 place_of f c i o = record { x = place_x f i o.size.width; y = place_y f c i o }
 
 -- through: strut takes T and B, and so does the top set if at the top
-unfoldable pub past_through : Cursor → CollapsibleMarginSet → CollapsibleMarginSet → OptionF32 → Cursor
+unfoldable pub past_through : Cursor → CollapsibleMarginSet → CollapsibleMarginSet → Option Float → Cursor
 past_through c t b baseline =
     record {
       y = c.y;
@@ -155,7 +154,7 @@ past_through c t b baseline =
     }
 
 -- else: the top set takes T if at the top, y = (y+gap)+h, strut = B, no longer at the top
-unfoldable pub past_box : Frame → Cursor → CollapsibleMarginSet → CollapsibleMarginSet → Float → OptionF32 → Cursor
+unfoldable pub past_box : Frame → Cursor → CollapsibleMarginSet → CollapsibleMarginSet → Float → Option Float → Cursor
 past_box f c t b h baseline =
     record {
       y = (c.y ⊕ gap_of f c t) ⊕ h;

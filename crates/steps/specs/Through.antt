@@ -4,12 +4,10 @@
 --   sets not passed out hold the own margin alone                  passed_out
 --   a container's answer, with its baseline, and its shift                            output_of; K to N, whole: finished
 --   a leaf takes known sizes, else its table                       leaf_output
-use Rattle.std.specs.Prelude.{Bool, false, cond, not, ◌&&◌, Float}
+use Rattle.std.specs.Prelude.{Bool, false, cond, not, ◌&&◌, Float, Option, unwrap_or}
 use Rattle.std.specs.Float.Ieee.{lt, eq}
 use Rattle.geometry.specs.Geometry.{zero_f}
 use Rattle.geometry.specs.declared.Rect.{Rect}
-use Rattle.util.specs.Maybe.{unwrap_or}
-use Rattle.util.specs.declared.OptionF32.{OptionF32}
 use Rattle.length.specs.Length.{resolved_or_zero}
 use Rattle.style.specs.declared.Measure.{Measure}
 use Rattle.style.specs.declared.Style.{Style}
@@ -26,11 +24,11 @@ use Rattle.steps.specs.declared.Cursor.{Cursor}
 use Rattle.steps.specs.declared.Finished.{Finished}
 
 -- four vertical paddings and borders not above 0
-unfoldable pub open_box : Rect → Rect → Bool
+unfoldable pub open_box : Rect Float → Rect Float → Bool
 open_box padding border = not (lt zero_f padding.top) && (not (lt zero_f padding.bottom) && (not (lt zero_f border.top) && not (lt zero_f border.bottom)))
 
 -- what the box alone decides: below the root, in-flow block without new context, open
-unfoldable pub hollow_box : Style → Bool → Rect → Rect → Bool
+unfoldable pub hollow_box : Style → Bool → Rect Float → Rect Float → Bool
 hollow_box s nested padding border = nested && (plain_block s && open_box padding border)
 
 -- a hollow box of height 0 whose every shown child is through or out of flow
@@ -41,7 +39,7 @@ step_n f c height = f.hollow && (eq height zero_f && c.allThrough)
 unfoldable pub passed_out : Bool → CollapsibleMarginSet → Float → CollapsibleMarginSet
 passed_out passed set own = cond passed set (set_of own)
 
-unfoldable pub output_of : Style → LayoutInput → Frame → Cursor → Float → OptionF32 → LayoutOutput
+unfoldable pub output_of : Style → LayoutInput → Frame → Cursor → Float → Option Float → LayoutOutput
 output_of s q f c height shift =
     record {
       size = record { width = f.width; height = height };

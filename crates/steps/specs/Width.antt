@@ -5,14 +5,12 @@
 --   then add insets, clamp, larger with padding+border             content_width
 --   a leaf's table                                                 leaf_width
 -- F, whole: probe_f and found_width (Probe), one child after the other, and into the probed ones.
-use Rattle.std.specs.Prelude.{Float}
+use Rattle.std.specs.Prelude.{Float, Option, None, Some}
 use Rattle.geometry.specs.Floats.{◌⊕◌}
 use Rattle.geometry.specs.Geometry.{across}
 use Rattle.geometry.specs.declared.Rect.{Rect}
 use Rattle.util.specs.Math.{larger, clamped}
 use Rattle.util.specs.Maybe.{clamp_opt}
-use Rattle.util.specs.declared.OptionF32.{OptionF32}
-use Rattle.util.specs.declared.OptionF32.TheVariants.{None, Some}
 use Rattle.length.specs.Length.{resolved_or_zero}
 use Rattle.length.specs.Available.{available_less, definite}
 use Rattle.length.specs.declared.AvailableSpace.{AvailableSpace}
@@ -29,7 +27,7 @@ use Rattle.steps.specs.declared.Want.{Want}
 use Rattle.steps.specs.declared.Want.TheVariants.{Nothing, Outer, Probe}
 
 -- F: side margins against the definite width, else no basis
-unfoldable pub side_margins : Style → OptionF32 → Float
+unfoldable pub side_margins : Style → Option Float → Float
 side_margins s basis = resolved_or_zero s.margin.left basis ⊕ resolved_or_zero s.margin.right basis
 
 -- F: larger(width, its padding+border) + margins
@@ -41,7 +39,7 @@ unfoldable pub outer_width : Style → AvailableSpace → Float → Float
 outer_width s a width = outer_of (step_a s None) (side_margins s (definite a)) width
 
 -- F: a child with a width gives it, clamped; one without is probed with its clamped height, at the available width less margins
-unfoldable pub want_by : Sizing → Float → AvailableSpace → OptionF32 → Want
+unfoldable pub want_by : Sizing → Float → AvailableSpace → Option Float → Want
 want_by z margins a None = Probe (record { height = clamp_opt z.size.height z.min.height z.max.height; available = available_less a margins })
 want_by z margins a (Some w) = Outer (outer_of z margins w)
 
@@ -58,7 +56,7 @@ unfoldable pub want_of : Style → AvailableSpace → Want
 want_of s a = want_in (flow_of s) s a
 
 -- F: then add insets, clamp, larger with padding+border
-unfoldable pub content_width : Sizing → Rect → Float → Float
+unfoldable pub content_width : Sizing → Rect Float → Float → Float
 content_width z inset most = larger (clamped (most ⊕ across inset) z.min.width z.max.width) (across z.both)
 
 -- a leaf's table: min, max, or clamp of the definite width

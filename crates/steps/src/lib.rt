@@ -9,7 +9,6 @@ use geometry::{Point, Rect, Size};
 use length::AvailableSpace;
 use margin::CollapsibleMarginSet;
 use tree::{NodeId, Order};
-use util::{OptionF32, OptionSize};
 
 // Bits of a row's second word.
 pub const LAID: u32 = 0;
@@ -31,7 +30,7 @@ pub const BASELINE_GIVEN: u32 = 9;
 // What a caller asks of a page. The parent width is always a number. A known height is definite only where the caller says so.
 #[derive(Clone, Copy)]
 pub struct Question {
-    pub known: OptionSize,
+    pub known: Size<Option<f32>>,
     pub parent: f32,
     pub definiteHeight: bool,
     pub available: AvailableSpace,
@@ -42,9 +41,9 @@ pub struct Question {
 // A final question. `basis` is what a fraction of a height is a part of. Two flags say which margins may collapse; `nested` is false at the root alone.
 #[derive(Clone, Copy)]
 pub struct LayoutInput {
-    pub known: OptionSize,
-    pub parent: OptionF32,
-    pub basis: OptionF32,
+    pub known: Size<Option<f32>>,
+    pub parent: Option<f32>,
+    pub basis: Option<f32>,
     pub definiteHeight: bool,
     pub available: AvailableSpace,
     pub collapseStart: bool,
@@ -55,29 +54,29 @@ pub struct LayoutInput {
 // Its answer. `baseline` is the first one at or below the box, measured from its top.
 #[derive(Clone, Copy)]
 pub struct LayoutOutput {
-    pub size: Size,
+    pub size: Size<f32>,
     pub top: CollapsibleMarginSet,
     pub bottom: CollapsibleMarginSet,
     pub through: bool,
-    pub baseline: OptionF32,
+    pub baseline: Option<f32>,
 }
 
 // A probe: width only, no width known, no parent width.
 #[derive(Clone, Copy)]
 pub struct ProbeInput {
-    pub height: OptionF32,
+    pub height: Option<f32>,
     pub available: AvailableSpace,
 }
 
 // Step A of a box, against one basis. `both` is padding+border side by side.
 #[derive(Clone, Copy)]
 pub struct Sizing {
-    pub padding: Rect,
-    pub border: Rect,
-    pub both: Rect,
-    pub size: OptionSize,
-    pub min: OptionSize,
-    pub max: OptionSize,
+    pub padding: Rect<f32>,
+    pub border: Rect<f32>,
+    pub both: Rect<f32>,
+    pub size: Size<Option<f32>>,
+    pub min: Size<Option<f32>>,
+    pub max: Size<Option<f32>>,
 }
 
 // What step F wants of a child: nothing, its outer width, or a probe.
@@ -92,12 +91,12 @@ pub enum Want {
 #[derive(Clone, Copy)]
 pub struct Frame {
     pub width: f32,
-    pub height: OptionF32,
-    pub inset: Rect,
+    pub height: Option<f32>,
+    pub inset: Rect<f32>,
     pub floor: f32,
-    pub minHeight: OptionF32,
-    pub maxHeight: OptionF32,
-    pub heightBasis: OptionF32,
+    pub minHeight: Option<f32>,
+    pub maxHeight: Option<f32>,
+    pub heightBasis: Option<f32>,
     pub ownStart: bool,
     pub ownEnd: bool,
     pub hollow: bool,
@@ -108,10 +107,10 @@ pub struct Frame {
 #[derive(Clone, Copy)]
 pub struct BlockItem {
     pub sizing: Sizing,
-    pub margin: Rect,
+    pub margin: Rect<f32>,
     pub left: bool,
     pub right: bool,
-    pub offset: Point,
+    pub offset: Point<f32>,
 }
 
 // Where the stack stands: y, the strut, the top set, still at the top, all shown children through so far, the first baseline, and two counts of siblings.
@@ -122,7 +121,7 @@ pub struct Cursor {
     pub top: CollapsibleMarginSet,
     pub first: bool,
     pub allThrough: bool,
-    pub baseline: OptionF32,
+    pub baseline: Option<f32>,
     pub shown: Order,
     pub count: u32,
 }
@@ -131,13 +130,12 @@ pub struct Cursor {
 #[derive(Clone, Copy)]
 pub struct Finished {
     pub output: LayoutOutput,
-    pub shift: OptionF32,
+    pub shift: Option<f32>,
 }
 
-// What a layout or a relayout answers.
+// Why a call is refused, in the order of the tests.
 #[derive(Clone, Copy)]
-pub enum Answer {
-    Done(u32),
+pub enum Refusal {
     Lengths,
     Tree(NodeId),
     Codes(NodeId),
@@ -146,34 +144,6 @@ pub enum Answer {
     Edits(u32),
     NotLaid,
     TooLarge(NodeId),
-}
-
-// What a size question answers.
-#[derive(Clone, Copy)]
-pub enum SizeAnswer {
-    Sized(Size),
-    Refused(Answer),
-}
-
-// The tests before any write.
-#[derive(Clone, Copy)]
-pub enum Tested {
-    Pass,
-    Refuse(Answer),
-}
-
-// The lowest node at fault.
-#[derive(Clone, Copy)]
-pub enum Found {
-    Nowhere,
-    At(NodeId),
-}
-
-// The first index of a list that is at fault.
-#[derive(Clone, Copy)]
-pub enum Spot {
-    Nowhere,
-    At(u32),
 }
 
 // Which size a size question wants.
@@ -191,8 +161,8 @@ pub fn root_input(q: Question) -> LayoutInput
     let available = q.available;
     LayoutInput {
         known,
-        parent: OptionF32::Some(q.parent),
-        basis: OptionF32::None,
+        parent: Some(q.parent),
+        basis: None,
         definiteHeight: q.definiteHeight,
         available,
         collapseStart: q.collapseStart,
@@ -201,36 +171,33 @@ pub fn root_input(q: Question) -> LayoutInput
     }
 }
 
-// An answer's number on paper.
-pub fn number_of(a: Answer) -> u32
+// The number on paper of what a layout or a relayout answers: a count, or why not.
+#[tactic(auto, unfolding(crate::specs::Noes::paper, crate::specs::Noes::refusal_paper))]
+pub fn number_of(a: Result<u32, Refusal>) -> u32
     ensures { result ≡ (paper a).0 }
 {
     match a {
-        Answer::Done(_n) => 0,
-        Answer::Lengths => 1,
-        Answer::Tree(_i) => 2,
-        Answer::Codes(_i) => 3,
-        Answer::Numbers(_k) => 4,
-        Answer::Room => 5,
-        Answer::Edits(_k) => 6,
-        Answer::NotLaid => 7,
-        Answer::TooLarge(_i) => 8,
+        Ok(_) => 0,
+        Err(Refusal::Lengths) => 1,
+        Err(Refusal::Tree(_)) => 2,
+        Err(Refusal::Codes(_)) => 3,
+        Err(Refusal::Numbers(_)) => 4,
+        Err(Refusal::Room) => 5,
+        Err(Refusal::Edits(_)) => 6,
+        Err(Refusal::NotLaid) => 7,
+        Err(Refusal::TooLarge(_)) => 8,
     }
 }
 
 // Its place, or the count of an accepted one.
-pub fn place_of(a: Answer) -> u32
+#[tactic(auto, unfolding(crate::specs::Noes::paper, crate::specs::Noes::refusal_paper))]
+pub fn place_of(a: Result<u32, Refusal>) -> u32
     ensures { result ≡ (paper a).1 }
 {
     match a {
-        Answer::Done(n) => n,
-        Answer::Lengths => 0,
-        Answer::Tree(i) => i.0,
-        Answer::Codes(i) => i.0,
-        Answer::Numbers(k) => k,
-        Answer::Room => 0,
-        Answer::Edits(k) => k,
-        Answer::NotLaid => 0,
-        Answer::TooLarge(i) => i.0,
+        Ok(n) => n,
+        Err(Refusal::Tree(i) | Refusal::Codes(i) | Refusal::TooLarge(i)) => i.0,
+        Err(Refusal::Numbers(k) | Refusal::Edits(k)) => k,
+        Err(Refusal::Lengths | Refusal::Room | Refusal::NotLaid) => 0,
     }
 }

@@ -1,9 +1,8 @@
 -- Style and unit words as codes of one or two bits.
-use Rattle.std.specs.Prelude.{Bool, cond, not, ◌&&◌, ℕ, zero, suc, ◌+◌, ◌*◌, ◌-◌, ◌/◌, ◌%◌, ◌^◌, eqb, ltb, Float}
+use Rattle.geometry.specs.declared.Point.{Point}
+use Rattle.std.specs.Prelude.{Bool, cond, not, ◌&&◌, ℕ, zero, suc, ◌+◌, ◌*◌, ◌-◌, ◌/◌, ◌%◌, ◌^◌, eqb, ltb, Float, Option, None, Some}
 use Rattle.std.specs.Float.Ieee.{eq}
 use Rattle.geometry.specs.Geometry.{zero_f}
-use Rattle.util.specs.declared.OptionF32.{OptionF32}
-use Rattle.util.specs.declared.OptionF32.TheVariants.{None, Some}
 use Rattle.length.specs.declared.Length.{Length}
 use Rattle.length.specs.declared.Length.TheVariants.{Auto, Pixels, Fraction}
 use Rattle.style.specs.declared.Kind.{Kind}
@@ -13,7 +12,6 @@ use Rattle.style.specs.declared.Position.TheVariants.{Static, Relative, Absolute
 use Rattle.style.specs.declared.Overflow.{Overflow}
 use Rattle.style.specs.declared.Overflow.TheVariants.{Visible, Clip, Scroll}
 use Rattle.style.specs.declared.Overflow.TheVariants as overflow
-use Rattle.style.specs.declared.OverflowXY.{OverflowXY}
 use Rattle.style.specs.declared.AlignContent.{AlignContent}
 use Rattle.style.specs.declared.AlignContent.TheVariants.{Normal, Start, Center, End, SpaceBetween, SpaceAround, SpaceEvenly, Stretch}
 
@@ -51,7 +49,7 @@ unfoldable pub overflow_of : ℕ → Overflow
 overflow_of k = pick4 k Visible Clip overflow.Hidden Scroll
 
 -- 6-7 across, 8-9 down
-unfoldable pub overflow_xy : ℕ → OverflowXY
+unfoldable pub overflow_xy : ℕ → Point Overflow
 overflow_xy w = record { x = overflow_of (code_at w 3); y = overflow_of (code_at w 4) }
 
 unfoldable pub align_of : ℕ → AlignContent
@@ -78,9 +76,9 @@ unfoldable pub length_of : ℕ → Float → Length
 length_of k x = pick4 k Auto (Pixels x) (Fraction x) Auto
 
 -- 0 for none
-unfoldable pub ratio_of : Float → OptionF32
+unfoldable pub ratio_of : Float → Option Float
 ratio_of x = cond (eq x zero_f) None (Some x)
 
 -- a leaf's baseline: the number, if bit 16 is set; containment suppresses it
-unfoldable pub baseline_of : ℕ → Float → OptionF32
+unfoldable pub baseline_of : ℕ → Float → Option Float
 baseline_of w x = cond (flag_at w 16 && not (flag_at w 12)) (Some x) None

@@ -1,19 +1,20 @@
 -- Fields whose units stand one after another in one unit word. Size, minimum, maximum, margin and padding stand in the
 -- first, border and inset in the second: no group is cut by the end of a word. Assumes nothing.
+use Rattle.length.specs.declared.Length.{Length}
+use Rattle.geometry.specs.declared.Size.{Size}
+use Rattle.geometry.specs.declared.Rect.{Rect}
 use Rattle.std.specs.Prelude.{◌≡◌, List, ℕ, ◌+◌, ◌-◌, ◌<◌, ◌≤◌, Float}
 use Rattle.std.proofs.Common.{arith}
-use Rattle.length.specs.declared.LengthRect.{LengthRect}
-use Rattle.length.specs.declared.LengthSize.{LengthSize}
 use Rattle.style.specs.Codes.{code_at, length_of}
 use Rattle.style.specs.Style.{word_at, number_at, length_at, size_at, rect_at}
 use Rattle.style.specs.Units.{unit_first, unit_second}
 
 -- width and height: fields f and f + 1 of node j, units from place k on
-unfoldable pub size_in : ℕ → ℕ → List Float → ℕ → ℕ → LengthSize
+unfoldable pub size_in : ℕ → ℕ → List Float → ℕ → ℕ → Size Length
 size_in units k xs j f = record { width = length_of (code_at units k) (number_at xs j f); height = length_of (code_at units (k + 1)) (number_at xs j (f + 1)) }
 
 -- top, right, bottom, left
-unfoldable pub rect_in : ℕ → ℕ → List Float → ℕ → ℕ → LengthRect
+unfoldable pub rect_in : ℕ → ℕ → List Float → ℕ → ℕ → Rect Length
 rect_in units k xs j f =
     record {
       top = length_of (code_at units k) (number_at xs j f);

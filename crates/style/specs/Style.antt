@@ -1,9 +1,9 @@
 -- A node's style, from its four words and 28 numbers.
+use Rattle.geometry.specs.declared.Size.{Size}
+use Rattle.geometry.specs.declared.Rect.{Rect}
 use Rattle.std.specs.Prelude.{ℕ, ◌+◌, ◌*◌, ◌/◌, cond, List, length, get_or, ltb, Float}
 use Rattle.geometry.specs.Geometry.{zero_f}
 use Rattle.length.specs.declared.Length.{Length}
-use Rattle.length.specs.declared.LengthRect.{LengthRect}
-use Rattle.length.specs.declared.LengthSize.{LengthSize}
 use Rattle.style.specs.Codes.{code_at, flag_at, kind_of, position_of, overflow_xy, align_at, unit_of, length_of, ratio_of, baseline_of}
 use Rattle.style.specs.declared.Measure.{Measure}
 use Rattle.style.specs.declared.Style.{Style}
@@ -33,11 +33,11 @@ unfoldable pub length_at : List ℕ → ℕ → List Float → ℕ → ℕ → L
 length_at ws i xs j f = length_of (unit_of (word_at ws i 2) (word_at ws i 3) f) (number_at xs j f)
 
 -- width and height
-unfoldable pub size_at : List ℕ → ℕ → List Float → ℕ → ℕ → LengthSize
+unfoldable pub size_at : List ℕ → ℕ → List Float → ℕ → ℕ → Size Length
 size_at ws i xs j f = record { width = length_at ws i xs j f; height = length_at ws i xs j (f + 1) }
 
 -- top, right, bottom, left
-unfoldable pub rect_at : List ℕ → ℕ → List Float → ℕ → ℕ → LengthRect
+unfoldable pub rect_at : List ℕ → ℕ → List Float → ℕ → ℕ → Rect Length
 rect_at ws i xs j f =
     record {
       top = length_at ws i xs j f;

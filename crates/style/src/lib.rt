@@ -5,12 +5,12 @@ mod decode;
 
 ghost use Rattle.std.specs.Prelude.{◌≡◌, ◌+◌, ◌*◌, ◌^◌, ◌<◌, ◌≤◌, length};
 ghost use Rattle.style.specs.Codes.{code_at, flag_at, clear_from, kind_of, position_of, overflow_of, distribution_at, align_of, distributed, align_at, overflow_xy, unit_of, length_of, ratio_of, baseline_of};
-ghost use Rattle.style.specs.Flow.{positioned, flow_by, flow_at, is_leaf};
+ghost use Rattle.style.specs.Flow.{flow_by, flow_at, is_leaf};
 ghost use Rattle.style.specs.Style.{word_at, plane_of, number_place, number_at, length_at, measure_at};
 
-use crate::decode::{align_from, distributed, kind_from, overflow_from, position_from};
-use length::{Length, LengthRect, LengthSize};
-use util::OptionF32;
+use crate::decode::distributed;
+use geometry::{Point, Rect, Size};
+use length::Length;
 
 // The lent tables: how many words, numbers, row numbers and marks a node has.
 pub const WORDS: usize = 4;
@@ -126,19 +126,13 @@ pub enum AlignContent {
     Stretch,
 }
 
-#[derive(Clone, Copy)]
-pub struct OverflowXY {
-    pub x: Overflow,
-    pub y: Overflow,
-}
-
 // A leaf's table: its widths under min-content and max-content, its height, and the first baseline that it shows.
 #[derive(Clone, Copy)]
 pub struct Measure {
     pub least: f32,
     pub most: f32,
     pub height: f32,
-    pub baseline: OptionF32,
+    pub baseline: Option<f32>,
 }
 
 // The whole of it. No code builds one: each step reads the part that it asks for, and the definitions speak of the whole.
@@ -148,18 +142,18 @@ pub struct Style {
     pub content: bool,
     pub rtl: bool,
     pub position: Position,
-    pub overflow: OverflowXY,
+    pub overflow: Point<Overflow>,
     pub align: AlignContent,
     pub safe: bool,
     pub contained: bool,
-    pub size: LengthSize,
-    pub min: LengthSize,
-    pub max: LengthSize,
-    pub margin: LengthRect,
-    pub padding: LengthRect,
-    pub border: LengthRect,
-    pub inset: LengthRect,
-    pub ratio: OptionF32,
+    pub size: Size<Length>,
+    pub min: Size<Length>,
+    pub max: Size<Length>,
+    pub margin: Rect<Length>,
+    pub padding: Rect<Length>,
+    pub border: Rect<Length>,
+    pub inset: Rect<Length>,
+    pub ratio: Option<f32>,
     pub scrollbar: f32,
     pub measure: Measure,
 }
@@ -205,14 +199,10 @@ pub fn length_from(k: u32, x: f32) -> Length
     }
 }
 
-pub fn ratio_from(x: f32) -> OptionF32
+pub fn ratio_from(x: f32) -> Option<f32>
     ensures { result ≡ ratio_of x }
 {
-    if x == 0.0 {
-        OptionF32::None
-    } else {
-        OptionF32::Some(x)
-    }
+    if x == 0.0 { None } else { Some(x) }
 }
 
 // The unit of field f, of the two unit words.
@@ -287,41 +277,42 @@ pub fn length_at(words: &[u32], i: usize, numbers: &[f32], j: usize, f: usize) -
 pub fn kind_of(w: u32) -> Kind
     ensures { result ≡ kind_of (code_at w 0) }
 {
-    kind_from(code(w, KIND))
+    Kind::from(code(w, KIND))
 }
 
 pub fn position_of(w: u32) -> Position
     ensures { result ≡ position_of (code_at w 2) }
 {
-    position_from(code(w, POSITION))
+    Position::from(code(w, POSITION))
 }
 
+#[tactic(auto, unfolding(crate::specs::Codes::align_at))]
 pub fn align_of(w: u32) -> AlignContent
     ensures { result ≡ align_at w }
 {
-    let plain = align_from(code(w, ALIGN));
-    distributed(distribution(w), plain)
+    distributed(distribution(w), AlignContent::from(code(w, ALIGN)))
 }
 
-pub fn overflow_of(w: u32) -> OverflowXY
+#[tactic(auto, unfolding(crate::specs::Codes::overflow_xy))]
+pub fn overflow_of(w: u32) -> Point<Overflow>
     ensures { result ≡ overflow_xy w }
 {
-    OverflowXY {
-        x: overflow_from(code(w, OVERFLOW_X)),
-        y: overflow_from(code(w, OVERFLOW_Y)),
+    Point {
+        x: Overflow::from(code(w, OVERFLOW_X)),
+        y: Overflow::from(code(w, OVERFLOW_Y)),
     }
 }
 
 // What a leaf shows as its baseline: number 27, unless it has none or is contained.
-fn baseline_of(w: u32, x: f32) -> OptionF32
+fn baseline_of(w: u32, x: f32) -> Option<f32>
     ensures { result ≡ baseline_of w x }
 {
     if flag(w, BASELINE) {
         if !flag(w, CONTAINED) {
-            return OptionF32::Some(x);
+            return Some(x);
         }
     }
-    OptionF32::None
+    None
 }
 
 // A leaf's table: of the node at i of the words and at j of the numbers.
@@ -337,22 +328,12 @@ pub fn measure_at(words: &[u32], i: usize, numbers: &[f32], j: usize) -> Measure
     }
 }
 
-fn flow_of_position(p: Position) -> Flow
-    ensures { result ≡ positioned p }
-{
-    match p {
-        Position::Static => Flow::In,
-        Position::Relative => Flow::In,
-        Position::Absolute => Flow::Out,
-    }
-}
-
+#[tactic(auto, unfolding(crate::specs::Flow::flow_by))]
 fn flow_by(k: Kind, p: Position) -> Flow
     ensures { result ≡ flow_by k p }
 {
     match k {
-        Kind::Block => flow_of_position(p),
-        Kind::Leaf => flow_of_position(p),
+        Kind::Block | Kind::Leaf => Flow::from(p),
         Kind::Hidden => Flow::Gone,
     }
 }
@@ -364,12 +345,9 @@ pub fn flow_at(w: u32) -> Flow
     flow_by(kind_of(w), position_of(w))
 }
 
+#[tactic(auto, unfolding(crate::specs::Flow::is_leaf))]
 pub fn is_leaf(k: Kind) -> bool
     ensures { result ≡ is_leaf k }
 {
-    match k {
-        Kind::Block => false,
-        Kind::Leaf => true,
-        Kind::Hidden => false,
-    }
+    matches!(k, Kind::Leaf)
 }

@@ -2,6 +2,7 @@
 --     good-parse               of any labels whose sizes are the table's
 --     good_page, good-cells    the page, and the page with its old rows
 --     page_of_cells            the page is the page with its old rows, without them
+use Rattle.std.specs.Prelude.{None}
 use mathlib.Core.Path.{◌≡◌, refl, sym, ap, ◌∙◌}
 use mathlib.Core.Bool.{false, Bool, true, ◌&&◌}
 use mathlib.Core.List.{List, [], ◌∷◌, ◌++◌, map}
@@ -23,7 +24,6 @@ use Rattle.style.specs.Flow.{is_leaf}
 use Rattle.steps.specs.Scan.{lowest}
 use Rattle.steps.specs.Page.{Site, Cell, nodes_in, site_at, cell_at, page_of, cells_of}
 use Rattle.steps.specs.Noes.{end_at, bad_tree}
-use Rattle.steps.specs.declared.Found.TheVariants.{Nowhere}
 use Rattle.tables.specs.Leaves.{LeavesT, LeavesF, leaf_word}
 use Rattle.shape.specs.TreeCheck.{Front, node_fault}
 use Rattle.tables.specs.TreeCheck.{GoodTable}
@@ -132,7 +132,7 @@ module _ {A : Type 0} (ws : List ℕ) (f : ℕ → Entry A) (sizes : (i : ℕ) �
   unfolding parse_t
   parseT-is n = refl
 
-  pub good-parse : 0 < nodes_in ws → lowest (bad_tree ws) (nodes_in ws) ≡ Nowhere → Parsed p f (nodes_in ws)
+  pub good-parse : 0 < nodes_in ws → lowest (bad_tree ws) (nodes_in ws) ≡ None → Parsed p f (nodes_in ws)
   good-parse some sound =
       let cl = lowest-nowhere (bad_tree ws) (nodes_in ws) sound in
       let whole : word_at ws 0 0 ≡ nodes_in ws = root-whole ws (cl 0 some) in

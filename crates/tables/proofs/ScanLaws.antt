@@ -1,25 +1,23 @@
 -- What `lowest` and `first_of` say, exactly; the laws of `scan` that they rest on are passed on.
 --     lowest-*, first-*        the lowest node at fault, the first index at fault
+use Rattle.std.specs.Prelude.{Option, None, Some}
 use mathlib.Core.Path.{◌≡◌, ap}
 use mathlib.Core.Bool.{Bool}
 use Prim.Native.Nat.{ℕ, ◌<◌}
 use native.Mathlib.Omega.{arith}
-use Rattle.steps.specs.declared.Found.TheVariants.{Nowhere}
-use Rattle.steps.specs.declared.Spot.{Spot}
-use Rattle.steps.specs.declared.Spot.TheVariants as spot
 use Rattle.steps.specs.Scan.{scan, at_node, lowest, first_of}
 use Rattle.scans.specs.Scans.{is-hit, is_none, hit-is, none_is, at_inj, at_apart}
 use Rattle.tables.specs.Refusals.{Lowest, Sound}
 pub use Rattle.scans.specs.Scans.{none_left, next-no, next-yes, pass, here, over, start, never, is_none, some_is, not_some}
 
-abbrev index_of : Spot → ℕ
-index_of spot.Nowhere = 0
-index_of (spot.At k) = k
+abbrev index_of : Option ℕ → ℕ
+index_of None = 0
+index_of (Some k) = k
 
-spot_inj : (a b : ℕ) → spot.At a ≡ spot.At b → a ≡ b
+spot_inj : (a b : ℕ) → Some a ≡ Some b → a ≡ b
 spot_inj a b e = ap index_of e
 
-spot_apart : (a : ℕ) → spot.At a ≡ spot.Nowhere → ⊥
+spot_apart : (a : ℕ) → Some a ≡ None → ⊥
 spot_apart a e =
     let z : ◌≡◌ {A = ℕ} 0 1 = cc in
     omega arith
@@ -42,26 +40,26 @@ module _ {A : Type 0} (hit : ℕ → A) (none : A) (inj : (a b : ℕ) → hit a 
 
 module _ (p : ℕ → Bool) (n : ℕ) where
   pub lowest-at : (k : ℕ) → lowest p n ≡ at_node k → Lowest p n k
-  lowest-at = scan-at at_node Nowhere at_inj at_apart p n
+  lowest-at = scan-at at_node None at_inj at_apart p n
 
   pub at-lowest : (k : ℕ) → Lowest p n k → lowest p n ≡ at_node k
-  at-lowest = at-scan at_node Nowhere at_inj at_apart p n
+  at-lowest = at-scan at_node None at_inj at_apart p n
 
-  pub lowest-nowhere : lowest p n ≡ Nowhere → Sound p n
-  lowest-nowhere = scan-nowhere at_node Nowhere at_inj at_apart p n
+  pub lowest-nowhere : lowest p n ≡ None → Sound p n
+  lowest-nowhere = scan-nowhere at_node None at_inj at_apart p n
 
-  pub nowhere-lowest : Sound p n → lowest p n ≡ Nowhere
-  nowhere-lowest = nowhere-scan at_node Nowhere at_inj at_apart p n
+  pub nowhere-lowest : Sound p n → lowest p n ≡ None
+  nowhere-lowest = nowhere-scan at_node None at_inj at_apart p n
 
   -- the same of an index
-  pub first-at : (k : ℕ) → first_of p n ≡ spot.At k → Lowest p n k
-  first-at = scan-at spot.At spot.Nowhere spot_inj spot_apart p n
+  pub first-at : (k : ℕ) → first_of p n ≡ Some k → Lowest p n k
+  first-at = scan-at Some None spot_inj spot_apart p n
 
-  pub at_first : (k : ℕ) → Lowest p n k → first_of p n ≡ spot.At k
-  at_first = at-scan spot.At spot.Nowhere spot_inj spot_apart p n
+  pub at_first : (k : ℕ) → Lowest p n k → first_of p n ≡ Some k
+  at_first = at-scan Some None spot_inj spot_apart p n
 
-  pub first-nowhere : first_of p n ≡ spot.Nowhere → Sound p n
-  first-nowhere = scan-nowhere spot.At spot.Nowhere spot_inj spot_apart p n
+  pub first-nowhere : first_of p n ≡ None → Sound p n
+  first-nowhere = scan-nowhere Some None spot_inj spot_apart p n
 
-  pub nowhere-first : Sound p n → first_of p n ≡ spot.Nowhere
-  nowhere-first = nowhere-scan spot.At spot.Nowhere spot_inj spot_apart p n
+  pub nowhere-first : Sound p n → first_of p n ≡ None
+  nowhere-first = nowhere-scan Some None spot_inj spot_apart p n

@@ -1,4 +1,5 @@
 -- Refusal 2 in the words of trees: the tree check passes exactly the tables of the trees of at most 32 levels whose leaves have no children.
+use Rattle.std.specs.Prelude.{None}
 use mathlib.Core.Path.{◌≡◌, refl, sym, ap, ◌∙◌}
 use mathlib.Core.Bool.{Bool, true, false, ◌&&◌}
 use mathlib.Core.List.{List, ◌∷◌, ◌++◌}
@@ -18,7 +19,6 @@ use Rattle.style.specs.Style.{word_at}
 use Rattle.steps.specs.Scan.{lowest}
 use Rattle.steps.specs.Page.{nodes_in, site_at}
 use Rattle.steps.specs.Noes.{end_at, bad_tree}
-use Rattle.steps.specs.declared.Found.TheVariants.{Nowhere}
 use Rattle.tables.specs.Leaves.{LeavesT, LeavesF, leaf_word}
 use Rattle.shape.specs.TreeCheck.{Front, node_fault}
 use Rattle.scans.specs.Scans.{Clear}
@@ -162,10 +162,10 @@ module _ {A : Type 0} (ws : List ℕ) (f : ℕ → Entry A) (sizes : (i : ℕ) �
       by_place zero r h = r
       by_place (suc j) r h = h (omega arith)
 
-  pub tree-passes : TreeOf p f (nodes_in ws) → lowest (bad_tree ws) (nodes_in ws) ≡ Nowhere
+  pub tree-passes : TreeOf p f (nodes_in ws) → lowest (bad_tree ws) (nodes_in ws) ≡ None
   tree-passes t = nowhere-lowest (bad_tree ws) (nodes_in ws) (root-passes t.tree t.entries t.shallow t.leaves)
 
-  pub passes-exactly : 0 < nodes_in ws → Exactly (lowest (bad_tree ws) (nodes_in ws) ≡ Nowhere) (TreeOf p f (nodes_in ws))
+  pub passes-exactly : 0 < nodes_in ws → Exactly (lowest (bad_tree ws) (nodes_in ws) ≡ None) (TreeOf p f (nodes_in ws))
   passes-exactly some =
       record {
         only = λ e. let g = good-parse ws f sizes p leafy some e in record { tree = parse_t f (nodes_in ws); entries = g.entries; shallow = g.shallow; leaves = g.leaves };
@@ -174,5 +174,5 @@ module _ {A : Type 0} (ws : List ℕ) (f : ℕ → Entry A) (sizes : (i : ℕ) �
 
 -- of the page's own words
 pub page_exactly : (ws : List ℕ) (xs : List Float) (es : List ℕ) → 0 < nodes_in ws
-    → Exactly (lowest (bad_tree ws) (nodes_in ws) ≡ Nowhere) (TreeOf leaf_site (site_at ws xs es 0) (nodes_in ws))
+    → Exactly (lowest (bad_tree ws) (nodes_in ws) ≡ None) (TreeOf leaf_site (site_at ws xs es 0) (nodes_in ws))
 page_exactly ws xs es some = passes-exactly ws (site_at ws xs es 0) (site_size ws xs es) leaf_site (site_leaf ws xs es) some

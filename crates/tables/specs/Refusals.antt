@@ -1,14 +1,12 @@
 -- What each answer of the tests is given for: the column 'given exactly if' of document 01, and the place. An answer's line says that no earlier test refuses.
-use Rattle.std.specs.Prelude.{◌≡◌, Bool, true, false, ◌||◌, List, [], ℕ, ◌<◌, ◌≤◌, min, length, get_or, Float}
+use Rattle.steps.specs.declared.Refusal.TheVariants.{Lengths, Tree, Codes, Numbers, Room, Edits, NotLaid, TooLarge}
+use Rattle.steps.specs.declared.Refusal.{Refusal}
+use Rattle.std.specs.Prelude.{◌≡◌, Bool, true, false, ◌||◌, List, [], ℕ, ◌<◌, ◌≤◌, min, length, get_or, Float, Result, Ok, Err, ⊤}
 use Rattle.style.specs.Codes.{flag_at}
 use Rattle.steps.specs.Page.{nodes_in, page_of}
 use Rattle.steps.specs.Candidates.{needed}
 use Rattle.steps.specs.Noes.{bad_tables, bad_rows, bad_tree, bad_style, bad_numbers, bad_question, bad_edit, records_in}
 use Rattle.steps.specs.declared.LayoutInput.{LayoutInput}
-use Rattle.steps.specs.declared.Answer.{Answer}
-use Rattle.steps.specs.declared.Answer.TheVariants.{Done, Lengths, Tree, Codes, Numbers, Room, Edits, NotLaid, TooLarge}
-use Rattle.steps.specs.declared.Tested.{Tested}
-use Rattle.steps.specs.declared.Tested.TheVariants.{Pass, Refuse}
 
 -- place k is at fault, and no lower one
 pub record Lowest (p : ℕ → Bool) (n k : ℕ) : Type 0 where
@@ -43,7 +41,7 @@ pub record EditsSound (es : List ℕ) (n : ℕ) : Type 0 where
   pub few : length es ≤ 64
 
 -- 1 to 4, given whether 1 is due
-abbrev pub PageDue : Bool → List ℕ → List Float → LayoutInput → Answer → Type 0
+abbrev pub PageDue : Bool → List ℕ → List Float → LayoutInput → Refusal → Type 0
 PageDue misfit ws xs q Lengths = misfit ≡ true
 PageDue misfit ws xs q (Tree i) = (misfit ≡ false) × Lowest (bad_tree ws) (nodes_in ws) i.0
 PageDue misfit ws xs q (Codes i) = (misfit ≡ false) × Sound (bad_tree ws) (nodes_in ws) × Lowest (bad_style ws xs) (nodes_in ws) i.0
@@ -52,12 +50,11 @@ PageDue misfit ws xs q Room = ⊥
 PageDue misfit ws xs q (Edits k) = ⊥
 PageDue misfit ws xs q NotLaid = ⊥
 PageDue misfit ws xs q (TooLarge i) = ⊥
-PageDue misfit ws xs q (Done k) = ⊥
 
 -- a size question
-abbrev pub SizeDue : List ℕ → List Float → LayoutInput → Tested → Type 0
-SizeDue ws xs q Pass = (bad_tables ws xs ≡ false) × PageSound ws xs q
-SizeDue ws xs q (Refuse a) = PageDue (bad_tables ws xs) ws xs q a
+abbrev pub SizeDue : List ℕ → List Float → LayoutInput → Result ⊤ Refusal → Type 0
+SizeDue ws xs q (Ok _) = (bad_tables ws xs ≡ false) × PageSound ws xs q
+SizeDue ws xs q (Err a) = PageDue (bad_tables ws xs) ws xs q a
 
 module _ (ws : List ℕ) (xs rs : List Float) (ms cw : List ℕ) (cx : List Float) where
   -- 1 with rows
@@ -75,7 +72,7 @@ module _ (ws : List ℕ) (xs rs : List Float) (ms cw : List ℕ) (cx : List Floa
     pub room : needed (page_of ws xs []) ≤ records_in cw cx
 
   -- a layout's refusals
-  abbrev pub LayoutRefused : LayoutInput → Answer → Type 0
+  abbrev pub LayoutRefused : LayoutInput → Refusal → Type 0
   LayoutRefused q Lengths = misfit ≡ true
   LayoutRefused q (Tree i) = PageDue misfit ws xs q (Tree i)
   LayoutRefused q (Codes i) = PageDue misfit ws xs q (Codes i)
@@ -84,14 +81,13 @@ module _ (ws : List ℕ) (xs rs : List Float) (ms cw : List ℕ) (cx : List Floa
   LayoutRefused q (Edits k) = ⊥
   LayoutRefused q NotLaid = ⊥
   LayoutRefused q (TooLarge i) = ⊥
-  LayoutRefused q (Done k) = ⊥
 
-  abbrev pub LayoutDue : LayoutInput → Tested → Type 0
-  LayoutDue q Pass = LayoutSound q
-  LayoutDue q (Refuse a) = LayoutRefused q a
+  abbrev pub LayoutDue : LayoutInput → Result ⊤ Refusal → Type 0
+  LayoutDue q (Ok _) = LayoutSound q
+  LayoutDue q (Err a) = LayoutRefused q a
 
   -- a relayout's
-  abbrev pub RelayoutRefused : List ℕ → LayoutInput → Answer → Type 0
+  abbrev pub RelayoutRefused : List ℕ → LayoutInput → Refusal → Type 0
   RelayoutRefused es q Lengths = LayoutRefused q Lengths
   RelayoutRefused es q (Tree i) = LayoutRefused q (Tree i)
   RelayoutRefused es q (Codes i) = LayoutRefused q (Codes i)
@@ -100,8 +96,7 @@ module _ (ws : List ℕ) (xs rs : List Float) (ms cw : List ℕ) (cx : List Floa
   RelayoutRefused es q (Edits k) = LayoutSound q × EditsAt es (nodes_in ws) k
   RelayoutRefused es q NotLaid = LayoutSound q × EditsSound es (nodes_in ws) × (flag_at (get_or ms 1 0) 0 ≡ false)
   RelayoutRefused es q (TooLarge i) = ⊥
-  RelayoutRefused es q (Done k) = ⊥
 
-  abbrev pub RelayoutDue : List ℕ → LayoutInput → Tested → Type 0
-  RelayoutDue es q Pass = LayoutSound q × EditsSound es (nodes_in ws) × (flag_at (get_or ms 1 0) 0 ≡ true)
-  RelayoutDue es q (Refuse a) = RelayoutRefused es q a
+  abbrev pub RelayoutDue : List ℕ → LayoutInput → Result ⊤ Refusal → Type 0
+  RelayoutDue es q (Ok _) = LayoutSound q × EditsSound es (nodes_in ws) × (flag_at (get_or ms 1 0) 0 ≡ true)
+  RelayoutDue es q (Err a) = RelayoutRefused es q a

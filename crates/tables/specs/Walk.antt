@@ -1,9 +1,9 @@
 -- One step of the count of candidates over the nodes in preorder.
-use Rattle.std.specs.Prelude.{◌≡◌, List, [], ℕ, Float}
+use Rattle.steps.specs.declared.Refusal.{Refusal}
+use Rattle.std.specs.Prelude.{◌≡◌, List, [], ℕ, Float, Result, ⊤}
 use Rattle.steps.specs.Page.{page_of}
 use Rattle.steps.specs.Candidates.{needed}
 use Rattle.steps.specs.Noes.{no5}
-use Rattle.steps.specs.declared.Tested.{Tested}
 use Rattle.style.specs.declared.Flow.{Flow}
 use Rattle.style.specs.declared.Flow.TheVariants.{Gone, Out, In}
 
@@ -23,5 +23,5 @@ passed_by In size = 1
 abbrev pub NeededIn : List ℕ → ℕ → Type 0
 NeededIn ws r = (xs : List Float) → r ≡ needed (page_of ws xs [])
 
-abbrev pub RoomTested : List ℕ → List ℕ → List Float → Tested → Type 0
+abbrev pub RoomTested : List ℕ → List ℕ → List Float → Result ⊤ Refusal → Type 0
 RoomTested ws cw cx r = (xs : List Float) → r ≡ no5 ws xs cw cx

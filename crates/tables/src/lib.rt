@@ -18,7 +18,7 @@ use codes::{first_bad_codes, first_bad_style};
 use lent::word_at;
 use numbers::numbers_tested;
 use shape::check_tree;
-use steps::{Answer, Found, LayoutInput, Tested};
+use steps::{LayoutInput, Refusal};
 use style::flag;
 
 // 1: no node, over 1,024, or not 4 words and 28 numbers for each.
@@ -51,69 +51,66 @@ pub fn bad_rows(words: &[u32], rows: &[f32], marks: &[u32]) -> bool
 }
 
 // 2.
-pub fn tree_tested(words: &[u32]) -> Tested
+pub fn tree_tested(words: &[u32]) -> Result<(), Refusal>
     ensures { result ≡ no2 words.now }
 {
     match check_tree(words) {
-        Found::Nowhere => Tested::Pass,
-        Found::At(i) => Tested::Refuse(Answer::Tree(i)),
+        None => Ok(()),
+        Some(i) => Err(Refusal::Tree(i)),
     }
 }
 
 // 3.
-fn codes_tested(words: &[u32], numbers: &[f32]) -> Tested
+fn codes_tested(words: &[u32], numbers: &[f32]) -> Result<(), Refusal>
     requires { nodes_in words.now ≤ 1024 }
     ensures { result ≡ no3 words.now numbers.now }
 {
     match first_bad_style(words, numbers) {
-        Found::Nowhere => Tested::Pass,
-        Found::At(i) => Tested::Refuse(Answer::Codes(i)),
+        None => Ok(()),
+        Some(i) => Err(Refusal::Codes(i)),
     }
 }
 
 // 3 by the words alone: a ratio beside a fraction shows in the numbers only.
-pub fn words_tested(words: &[u32]) -> Tested
+pub fn words_tested(words: &[u32]) -> Result<(), Refusal>
     requires { nodes_in words.now ≤ 1024 }
     ensures { result ≡ no3_by (bad_codes words.now) words.now }
 {
     match first_bad_codes(words) {
-        Found::Nowhere => Tested::Pass,
-        Found::At(i) => Tested::Refuse(Answer::Codes(i)),
+        None => Ok(()),
+        Some(i) => Err(Refusal::Codes(i)),
     }
 }
 
 // 5.
-fn room_tested(words: &[u32], pairs: &[u32], triples: &[f32]) -> Tested
+fn room_tested(words: &[u32], pairs: &[u32], triples: &[f32]) -> Result<(), Refusal>
     requires { GoodTable words.now }
     ensures { RoomTested words.now pairs.now triples.now result }
 {
     if records_in(pairs, triples) < count_needed(words) {
-        return Tested::Refuse(Answer::Room);
+        return Err(Refusal::Room);
     }
-    Tested::Pass
+    Ok(())
 }
 
 // 7.
-pub fn root_tested(marks: &[u32]) -> Tested
+pub fn root_tested(marks: &[u32]) -> Result<(), Refusal>
     ensures { result ≡ no7 marks.now }
 {
     if flag(word_at(marks, 1), steps::LAID) {
-        return Tested::Pass;
+        return Ok(());
     }
-    Tested::Refuse(Answer::NotLaid)
+    Err(Refusal::NotLaid)
 }
 
 // 2 to 4.
-fn page_tested(words: &[u32], numbers: &[f32], q: LayoutInput) -> Tested
+#[tactic(auto, unfolding(steps::specs::Noes::page_tested, steps::specs::Noes::and_then))]
+fn page_tested(words: &[u32], numbers: &[f32], q: LayoutInput) -> Result<(), Refusal>
     requires { (nodes_in words.now ≤ 1024) × (nodes_in words.now ≡ plane_of numbers.now) }
     ensures { result ≡ page_tested words.now numbers.now q }
 {
-    if let Tested::Refuse(a) = tree_tested(words) {
-        return Tested::Refuse(a);
-    }
-    if let Tested::Refuse(a) = codes_tested(words, numbers) {
-        return Tested::Refuse(a);
-    }
+    tree_tested(words)?;
+    codes_tested(words, numbers)?;
     numbers_tested(words, numbers, q)
 }
 
@@ -124,14 +121,14 @@ pub fn early_tested(
     rows: &[f32],
     marks: &[u32],
     q: LayoutInput,
-) -> Tested
+) -> Result<(), Refusal>
     ensures { result ≡ early_tested words.now numbers.now rows.now marks.now q }
 {
     if bad_tables(words, numbers) {
-        return Tested::Refuse(Answer::Lengths);
+        return Err(Refusal::Lengths);
     }
     if bad_rows(words, rows, marks) {
-        return Tested::Refuse(Answer::Lengths);
+        return Err(Refusal::Lengths);
     }
     page_tested(words, numbers, q)
 }
@@ -145,16 +142,15 @@ pub fn layout_tested(
     pairs: &[u32],
     triples: &[f32],
     q: LayoutInput,
-) -> Tested
+) -> Result<(), Refusal>
     ensures { result ≡ layout_tested words.now numbers.now rows.now marks.now pairs.now triples.now q }
 {
-    if let Tested::Refuse(a) = early_tested(words, numbers, rows, marks, q) {
-        return Tested::Refuse(a);
-    }
+    early_tested(words, numbers, rows, marks, q)?;
     room_tested(words, pairs, triples)
 }
 
 // The tests of a relayout: 1 to 7.
+#[tactic(auto, unfolding(steps::specs::Noes::relayout_tested, steps::specs::Noes::and_then))]
 pub fn relayout_tested(
     words: &[u32],
     numbers: &[f32],
@@ -164,24 +160,20 @@ pub fn relayout_tested(
     triples: &[f32],
     edits: &[u32],
     q: LayoutInput,
-) -> Tested
+) -> Result<(), Refusal>
     ensures { result ≡ relayout_tested words.now numbers.now rows.now marks.now pairs.now triples.now edits.now q }
 {
-    if let Tested::Refuse(a) = layout_tested(words, numbers, rows, marks, pairs, triples, q) {
-        return Tested::Refuse(a);
-    }
-    if let Tested::Refuse(a) = edits_tested(edits, words.len() / style::WORDS) {
-        return Tested::Refuse(a);
-    }
+    layout_tested(words, numbers, rows, marks, pairs, triples, q)?;
+    edits_tested(edits, words.len() / style::WORDS)?;
     root_tested(marks)
 }
 
 // The tests of a size question: 1 without rows, and 2 to 4.
-pub fn size_tested(words: &[u32], numbers: &[f32], q: LayoutInput) -> Tested
+pub fn size_tested(words: &[u32], numbers: &[f32], q: LayoutInput) -> Result<(), Refusal>
     ensures { result ≡ size_tested words.now numbers.now q }
 {
     if bad_tables(words, numbers) {
-        return Tested::Refuse(Answer::Lengths);
+        return Err(Refusal::Lengths);
     }
     page_tested(words, numbers, q)
 }

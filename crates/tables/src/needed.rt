@@ -36,6 +36,7 @@ pub(crate) fn count_needed(words: &[u32]) -> usize
     let n = words.len() / style::WORDS;
     let mut i = 1;
     let mut count = 0;
+    // No `for`: what takes no part is passed with all below it.
     while i < n {
         let flow = flow_at(word_in(words, i, style::STYLE));
         let size = word_in(words, i, style::SIZE) as usize;

@@ -1,48 +1,31 @@
 // Runs the tallest page: a root with 256 boxes of 65,536 pixels, the last of them first a pixel lower.
 #![tactic(auto)]
 
-ghost use Rattle.std.specs.Prelude.{◌<◌};
-
+use geometry::Size;
 use length::AvailableSpace;
-use std::io::Stdout;
-use steps::{Answer, Question};
-use util::{OptionF32, OptionSize};
+use std::io::{Stdout, Write};
+use steps::{Question, Refusal};
+use style::number_place;
 
-fn put_word(words: &mut [u32], i: usize, v: u32) {
-    if i < words.len() {
-        words[i] = v;
-    }
-}
+const NODES: usize = 257;
 
-fn put_number(numbers: &mut [f32], i: usize, v: f32) {
-    if i < numbers.len() {
-        numbers[i] = v;
-    }
-}
+// The field of a height.
+const HEIGHT: usize = 1;
 
-// Node i as a box of 65,536 pixels.
-fn put_box(words: &mut [u32], numbers: &mut [f32], i: usize)
-    requires { i < 257 }
-{
-    put_word(words, 4 * i, 1);
-    put_word(words, 4 * i + 2, 0x5500004);
-    put_word(words, 4 * i + 3, 0x55);
-    put_number(numbers, style::number_place(257, i, 1), 65536.0);
-}
-
-// 257 such boxes.
-fn fill(words: &mut [u32], numbers: &mut [f32]) {
-    let mut i = 0usize;
-    while i < 257 {
-        put_box(words, numbers, i);
-        i += 1;
+// The tables of that many boxes of 65,536 pixels.
+fn fill(words: &mut [u32; 1028], numbers: &mut [f32; 7196]) {
+    for i in 0..NODES {
+        words[4 * i] = 1;
+        words[4 * i + 2] = 0x5500004;
+        words[4 * i + 3] = 0x55;
+        numbers[number_place(NODES, i, HEIGHT)] = 65536.0;
     }
 }
 
 fn question() -> Question {
-    let known = OptionSize {
-        width: OptionF32::None,
-        height: OptionF32::None,
+    let known = Size {
+        width: None,
+        height: None,
     };
     Question {
         known,
@@ -55,24 +38,23 @@ fn question() -> Question {
 }
 
 fn show_height(mut to: Stdout, height: f32) {
-    if height == 16777215.0 {
-        console::write_all(&mut to, b", height 16777215\n");
-        return;
-    }
-    if height == 0.0 {
-        console::write_all(&mut to, b", height 0\n");
-        return;
-    }
-    console::write_all(&mut to, b", another height\n");
+    let text = if height == 16777215.0 {
+        "height 16777215"
+    } else if height == 0.0 {
+        "height 0"
+    } else {
+        "another height"
+    };
+    let _ = writeln!(to, ", {text}");
 }
 
-fn show(mut to: Stdout, a: Answer, height: f32) {
+fn show(mut to: Stdout, a: Result<u32, Refusal>, height: f32) {
     match a {
-        Answer::Done(n) => {
+        Ok(n) => {
             console::write_all(&mut to, b"done ");
             console::print_decimal(&mut to, n as u64);
         }
-        Answer::TooLarge(i) => {
+        Err(Refusal::TooLarge(i)) => {
             console::write_all(&mut to, b"too large ");
             console::print_decimal(&mut to, i.0 as u64);
         }
@@ -84,37 +66,28 @@ fn show(mut to: Stdout, a: Answer, height: f32) {
 }
 
 fn main(rt: HostRuntime) {
-    let mut words = [0u32; 1028];
-    let mut numbers = [0.0f32; 7196];
-    let mut rows = [0.0f32; 4112];
-    let mut marks = [0u32; 514];
-    let mut pairs = [0u32; 2];
-    let mut triples = [0.0f32; 3];
+    let mut words = [0; 1028];
+    let mut numbers = [0.0; 7196];
+    let mut rows = [0.0; 4112];
+    let mut marks = [0; 514];
+    let mut pairs = [0; 2];
+    let mut triples = [0.0; 3];
+    let q = question();
     fill(&mut words, &mut numbers);
     words[0] = 257;
     words[2] = 0x5500000;
-    numbers[257] = 0.0;
-    numbers[513] = 65535.0;
-    let q = question();
-    let a = layout::layout(
-        &words,
-        &numbers,
-        &mut rows,
-        &mut marks,
-        &mut pairs,
-        &mut triples,
-        q,
-    );
-    show(rt.stdout(), a, rows[3]);
-    numbers[513] = 65536.0;
-    let b = layout::layout(
-        &words,
-        &numbers,
-        &mut rows,
-        &mut marks,
-        &mut pairs,
-        &mut triples,
-        q,
-    );
-    show(rt.stdout(), b, rows[3]);
+    numbers[number_place(NODES, 0, HEIGHT)] = 0.0;
+    for last in [65535.0, 65536.0] {
+        numbers[number_place(NODES, NODES - 1, HEIGHT)] = last;
+        let a = layout::layout(
+            &words,
+            &numbers,
+            &mut rows,
+            &mut marks,
+            &mut pairs,
+            &mut triples,
+            q,
+        );
+        show(rt.stdout(), a, rows[3]);
+    }
 }

@@ -1,15 +1,15 @@
 -- One digit further: what the loop that reads a number uses. Assumes nothing.
-use mathlib.Core.Path.{◌≡◌, refl, sym, ◌∙◌, ap}
-use mathlib.Core.Bool.{Bool, true, false, cond, not, ◌&&◌}
+use Rattle.std.specs.Prelude.{None, Some}
+use mathlib.Core.Path.{◌≡◌, refl, sym}
+use mathlib.Core.Bool.{Bool, true, false}
 use mathlib.Core.List.{List, [], ◌∷◌}
-use Prim.Native.Nat.{ℕ, zero, suc, ◌+◌, ◌-◌, ◌*◌, ◌^◌, ◌<◌, ◌≤◌}
+use Prim.Native.Nat.{ℕ, ◌+◌, ◌*◌, ◌^◌, ◌<◌, ◌≤◌}
 use native.Mathlib.Omega.{arith}
 use lib.ListN.{length, drop, get_or, drop_of_length-le}
-use lib.Dec.{eqb, ltb, leb}
+use lib.Dec.{eqb}
 use native.Mathlib.Nat.{mul-le-mul_left, mul-le-mul_right}
 use borrow.Author.Tests.{lt-ltb, le-ltb, lt-leb, le-leb, ne_eqb}
 use Rattle.text.specs.Values.{digit_of, all_digits, value_from, value_of}
-use Rattle.text.specs.declared.Value.TheVariants.{Bad, Is}
 use Rattle.text.proofs.PieceTurn.{step}
 
 module _ (base : ℕ) (s : List ℕ) (i : ℕ) (h : i < length s) where
@@ -31,7 +31,7 @@ unfolding value_from
 grows base v [] h = omega arith
 grows base v (b ∷ s) h = omega (arith, grows base (v * base + digit_of b) s h, mul-le-mul_left v h)
 
-pub empty_bad : (base limit : ℕ) (s : List ℕ) → length s ≡ 0 → Bad ≡ value_of base limit s
+pub empty_bad : (base limit : ℕ) (s : List ℕ) → length s ≡ 0 → None ≡ value_of base limit s
 unfolding value_of
 empty_bad base limit s e = rw e
 
@@ -39,19 +39,19 @@ module _ (base limit : ℕ) (s : List ℕ) (some : 0 < length s) where
   not-empty : eqb (length s) 0 ≡ false
   not-empty = ne_eqb (length s) 0 (λ e. omega arith)
 
-  pub digits-bad : all_digits base s ≡ false → Bad ≡ value_of base limit s
+  pub digits-bad : all_digits base s ≡ false → None ≡ value_of base limit s
   unfolding value_of
   digits-bad e = rw (not-empty, e)
 
-  over : (b : Bool) → limit < value_from base 0 s → b ≡ all_digits base s → Bad ≡ value_of base limit s
+  over : (b : Bool) → limit < value_from base 0 s → b ≡ all_digits base s → None ≡ value_of base limit s
   unfolding value_of
   over true h e = rw (not-empty, ← e, lt-leb (value_from base 0 s) limit h)
   over false h e = digits-bad (sym e)
 
-  pub over_limit_lem : limit < value_from base 0 s → Bad ≡ value_of base limit s
+  pub over_limit_lem : limit < value_from base 0 s → None ≡ value_of base limit s
   over_limit_lem h = over (all_digits base s) h refl
 
-  pub all_good : (v : ℕ) → all_digits base s ≡ true → value_from base 0 s ≡ v → v ≤ limit → Is v ≡ value_of base limit s
+  pub all_good : (v : ℕ) → all_digits base s ≡ true → value_from base 0 s ≡ v → v ≤ limit → Some v ≡ value_of base limit s
   unfolding value_of
   all_good v d e h = rw (not-empty, d, e, le-leb v limit h)
 

@@ -1,11 +1,9 @@
 -- Where piece k and line k stand in a text. Assumes nothing.
-use Rattle.std.specs.Prelude.{◌≡◌, refl, Bool, true, false, cond, not, ◌&&◌, List, [], ◌∷◌, ℕ, zero, suc, ◌+◌, ◌-◌, ◌<◌, ◌≤◌, length, take, drop, get_or, eqb, leb}
+use Rattle.std.specs.Prelude.{◌≡◌, refl, Bool, true, false, cond, not, ◌&&◌, List, [], ◌∷◌, ℕ, zero, suc, ◌-◌, ◌<◌, ◌≤◌, length, take, drop, eqb, leb, None, Some}
 use Rattle.std.proofs.Common.{sym, ◌∙◌, ap, true≢false, arith, length-drop, take_all, leb-true}
 use Rattle.std.proofs.Math.Dec.{eqb-suc-zero}
 use Rattle.text.specs.Pieces.{longer, split, less_blank, lines_of, piece_at, starts_with, up_to, past, Starts, Ends}
 use Rattle.text.specs.Values.{all_digits, value_from, value_of}
-use Rattle.text.specs.declared.Value.{Value}
-use Rattle.text.specs.declared.Value.TheVariants.{Bad, Is}
 
 -- is there a separator?
 abbrev parted : ℕ → List ℕ → Bool
@@ -135,7 +133,7 @@ starts_long (k ∷ key) (b ∷ s) e = omega (arith, starts_long key s (and_secon
 pub from_on : (k : ℕ) (s : List ℕ) → take (length s - k) (drop k s) ≡ drop k s
 from_on k s = take_all (length s - k) (drop k s) (simp length-drop (omega arith))
 
-value_by : (a b c : Bool) (v w limit : ℕ) → leb w limit ≡ c → cond (a && (b && c)) (Is w) Bad ≡ Is v → v ≤ limit
+value_by : (a b c : Bool) (v w limit : ℕ) → leb w limit ≡ c → cond (a && (b && c)) (Some w) None ≡ Some v → v ≤ limit
 value_by true true true v w limit l e =
     let z : w ≡ v = cc in
     omega (arith, leb-true w limit l)
@@ -150,7 +148,7 @@ value_by false b c v w limit l e =
     absurd (omega arith)
 
 -- a value that is read is within the limit
-pub value_within : (base limit : ℕ) (s : List ℕ) (v : ℕ) → value_of base limit s ≡ Is v → v ≤ limit
+pub value_within : (base limit : ℕ) (s : List ℕ) (v : ℕ) → value_of base limit s ≡ Some v → v ≤ limit
 unfolding value_of
 value_within base limit s v e =
     value_by (not (eqb (length s) 0)) (all_digits base s) (leb (value_from base 0 s) limit) v (value_from base 0 s) limit refl e

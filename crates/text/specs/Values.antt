@@ -1,11 +1,7 @@
 -- Numbers as text: digits of a base, eight hex digits, the float of a bit pattern.
-use Rattle.std.specs.Prelude.{Bool, true, false, cond, not, ◌&&◌, List, [], ◌∷◌, ℕ, ◌+◌, ◌-◌, ◌*◌, length, eqb, ltb, leb, Float}
+use Rattle.std.specs.Prelude.{Bool, true, cond, not, ◌&&◌, List, [], ◌∷◌, ℕ, ◌+◌, ◌-◌, ◌*◌, length, eqb, ltb, leb, Float, Option, None, Some}
 use Rattle.std.specs.Float.{nan, binary32}
 use Rattle.std.specs.Float.Ieee.{nan_bits, of_bits}
-use Rattle.util.specs.declared.OptionF32.{OptionF32}
-use Rattle.util.specs.declared.OptionF32.TheVariants.{None, Some}
-use Rattle.text.specs.declared.Value.{Value}
-use Rattle.text.specs.declared.Value.TheVariants.{Bad, Is}
 
 -- the value of a digit, lower case, and 16 for what is none
 unfoldable pub digit_of : ℕ → ℕ
@@ -22,18 +18,18 @@ value_from base v [] = v
 value_from base v (b ∷ s) = value_from base (v * base + digit_of b) s
 
 -- digits, one at least, with a value up to the limit
-unfoldable pub value_of : ℕ → ℕ → List ℕ → Value
+unfoldable pub value_of : ℕ → ℕ → List ℕ → Option ℕ
 value_of base limit s =
-    cond (not (eqb (length s) 0) && (all_digits base s && leb (value_from base 0 s) limit)) (Is (value_from base 0 s)) Bad
+    cond (not (eqb (length s) 0) && (all_digits base s && leb (value_from base 0 s) limit)) (Some (value_from base 0 s)) None
 
 -- eight hex digits
-unfoldable pub hex_of : List ℕ → Value
-hex_of s = cond (eqb (length s) 8) (value_of 16 0xffff_ffff s) Bad
+unfoldable pub hex_of : List ℕ → Option ℕ
+hex_of s = cond (eqb (length s) 8) (value_of 16 0xffff_ffff s) None
 
 -- the number of a bit pattern
 unfoldable pub float_of : ℕ → Float
 float_of w = cond (nan_bits binary32 w) nan (of_bits binary32 w)
 
-unfoldable pub number_of : Value → OptionF32
-number_of Bad = None
-number_of (Is w) = Some (float_of w)
+unfoldable pub number_of : Option ℕ → Option Float
+number_of None = None
+number_of (Some w) = Some (float_of w)

@@ -1,20 +1,17 @@
 -- The lines of the events, one after the other. Assumes nothing.
+use Rattle.std.specs.Prelude.{Option, None, Some, is_some}
 use mathlib.Core.Path.{◌≡◌, refl, sym, ◌∙◌, ap}
 use mathlib.Core.Bool.{Bool, true, false, cond, ◌&&◌}
-use mathlib.Core.List.{List, [], ◌∷◌}
+use mathlib.Core.List.{List, ◌∷◌}
 use Prim.Native.Nat.{ℕ, zero, suc, ◌+◌, ◌-◌, ◌<◌, ◌≤◌}
 use native.Mathlib.Omega.{arith}
 use lib.ListN.{length, take, drop, length-drop, drop_of_length-le}
 use lib.Dec.{eqb}
-use Rattle.text.specs.Pieces.{lines_of, piece_at, up_to, past, Ends}
-use Rattle.text.specs.Laws.{first_line, no_lines, line_is, lines_past}
-use Rattle.text.specs.declared.Value.{Value}
-use Rattle.text.specs.declared.Value.TheVariants as value
+use Rattle.text.specs.Pieces.{lines_of, piece_at, past, Starts, Ends}
+use Rattle.text.specs.Laws.{first_line, no_lines, line_is, lines_past, from_on}
 use Rattle.day.specs.declared.Event.{Event}
-use Rattle.trace.specs.Event.{event_line, is_event, events_of}
+use Rattle.trace.specs.Event.{event_line, is_event}
 use Rattle.trace.specs.File.{events_line, bad_event, bad_by, bad_in}
-use Rattle.trace.specs.declared.EventLine.{EventLine}
-use Rattle.trace.specs.declared.EventLine.TheVariants.{Bad, Is}
 
 -- the line at a place, and those past it
 pub lines_at : (s : List ℕ) (at e : ℕ) → at < length s → Ends 10 at s e → lines_of (drop at s) ≡ take (e - at) (drop at s) ∷ lines_of (drop (e + 1) s)
@@ -68,10 +65,19 @@ module _ (whole : Bool) (n : ℕ) where
 
 -- the line events= says how many, or is bad
 module _ (whole : Bool) (n k : ℕ) (s : List ℕ) (e : ℕ) (ends : Ends 10 0 s e) where
-  pub bad-count : events_line (take e s) ≡ value.Bad → k ≡ bad_in whole n k (lines_of s)
+  pub bad-count : events_line (take e s) ≡ None → k ≡ bad_in whole n k (lines_of s)
   unfolding bad_in bad_by
   bad-count z = rw (← line_first s e ends, z)
 
-  pub good-count : (c : ℕ) → events_line (take e s) ≡ value.Is c → bad_event whole n c (k + 1) (lines_of (drop (e + 1) s)) ≡ bad_in whole n k (lines_of s)
+  pub good-count : (c : ℕ) → events_line (take e s) ≡ Some c → bad_event whole n c (k + 1) (lines_of (drop (e + 1) s)) ≡ bad_in whole n k (lines_of s)
   unfolding bad_in bad_by
   good-count c z = rw (← line_first s e ends, z, lines_rest s e ends)
+
+pub some_event : (e : Option Event) → is_some e ≡ is_event e
+unfolding is_event
+some_event None = refl
+some_event (Some e) = refl
+
+-- what stands past the first separator
+pub past_first : (c : ℕ) (s : List ℕ) (a : ℕ) → Starts c 1 s a → take (length s - a) (drop a s) ≡ past c 1 s
+past_first c s a starts = from_on a s ∙ starts.rest

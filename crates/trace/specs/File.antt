@@ -1,13 +1,12 @@
 -- A whole trace file: its page, and the first bad or missing line of page and events.
-use Rattle.std.specs.Prelude.{◌≡◌, Bool, true, false, cond, ◌&&◌, List, [], ◌∷◌, ℕ, zero, suc, ◌+◌, ◌≤◌, length, take, drop, eqb, leb, Float}
+use Rattle.page.specs.declared.PageError.TheVariants.{BadLine}
+use Rattle.page.specs.declared.PageError.{PageError}
+use Rattle.page.specs.declared.Head.{Head}
+use Rattle.std.specs.Prelude.{◌≡◌, Bool, true, cond, ◌&&◌, List, [], ◌∷◌, ℕ, zero, suc, ◌+◌, ◌≤◌, length, take, drop, eqb, leb, Option, None, Some, Err, Ok, Result}
 use Rattle.text.specs.Pieces.{bit, starts_with, lines_of, piece_at}
 use Rattle.text.specs.Values.{value_of}
-use Rattle.text.specs.declared.Value.{Value}
-use Rattle.text.specs.declared.Value.TheVariants as value
 use Rattle.lines.specs.Lines.{keyed}
 use Rattle.page.specs.File.{Read, page_file}
-use Rattle.page.specs.declared.PageFile.{PageFile}
-use Rattle.page.specs.declared.PageFile.TheVariants.{BadLine, Page}
 use Rattle.day.specs.declared.Event.{Event}
 use Rattle.trace.specs.Event.{event_line, is_event, events_of}
 use Rattle.trace.specs.declared.Start.{Start}
@@ -16,8 +15,8 @@ abbrev pub events= : List ℕ
 events= = 101 ∷ 118 ∷ 101 ∷ 110 ∷ 116 ∷ 115 ∷ 61 ∷ []
 
 -- events= and a decimal number up to 4,096
-unfoldable pub events_line : List ℕ → Value
-events_line l = keyed events= l (value_of 10 4096) value.Bad
+unfoldable pub events_line : List ℕ → Option ℕ
+events_line l = keyed events= l (value_of 10 4096) None
 
 -- is a line that starts with events= next? `fresh`: a line starts here
 unfoldable pub starts_events : Bool → List ℕ → Bool
@@ -44,9 +43,9 @@ bad_event whole n c k [] = cond (whole && eqb c 0) 0 k
 bad_event whole n zero k (l ∷ ls) = k
 bad_event whole n (suc c) k (l ∷ ls) = cond (is_event (event_line n l)) (bad_event whole n c (k + 1) ls) k
 
-unfoldable pub bad_by : Bool → ℕ → ℕ → List (List ℕ) → Value → ℕ
-bad_by whole n k ls value.Bad = k
-bad_by whole n k ls (value.Is c) = bad_event whole n c (k + 1) (drop 1 ls)
+unfoldable pub bad_by : Bool → ℕ → ℕ → List (List ℕ) → Option ℕ → ℕ
+bad_by whole n k ls None = k
+bad_by whole n k ls (Some c) = bad_event whole n c (k + 1) (drop 1 ls)
 
 -- the same from the line events= on; a missing line reads as an empty one, which is bad
 unfoldable pub bad_in : Bool → ℕ → ℕ → List (List ℕ) → ℕ
@@ -54,11 +53,11 @@ bad_in whole n k ls = bad_by whole n k ls (events_line (piece_at ls 0))
 
 -- a page that is read, and the first bad line of its events
 unfoldable pub with_bad : Read → ℕ → Read
-with_bad f k = cond (eqb k 0) f (record { file = BadLine k; words = f.words; numbers = f.numbers })
+with_bad f k = cond (eqb k 0) f (record { file = Err (BadLine k); words = f.words; numbers = f.numbers })
 
-unfoldable pub with_events : Bool → List ℕ → Read → PageFile → Read
-with_events whole s f (BadLine k) = f
-with_events whole s f (Page h) = with_bad f (bad_in whole h.count (event_number s) (event_part s))
+unfoldable pub with_events : Bool → List ℕ → Read → Result Head PageError → Read
+with_events whole s f (Err (BadLine k)) = f
+with_events whole s f (Ok h) = with_bad f (bad_in whole h.count (event_number s) (event_part s))
 
 unfoldable pub trace_of : Bool → ℕ → ℕ → List ℕ → Read
 trace_of whole lw lx s = let f = page_file lw lx (page_part s) in with_events whole s f f.file

@@ -1,8 +1,6 @@
 -- 'The arithmetic' of document 01: larger, smaller, clamp.
-use Rattle.std.specs.Prelude.{Bool, cond, Float}
+use Rattle.std.specs.Prelude.{Bool, cond, Float, Option, None, Some}
 use Rattle.std.specs.Float.Ieee.{lt}
-use Rattle.util.specs.declared.OptionF32.{OptionF32}
-use Rattle.util.specs.declared.OptionF32.TheVariants.{None, Some}
 
 -- b if a < b, else a
 unfoldable pub larger : Float → Float → Float
@@ -13,15 +11,15 @@ unfoldable pub smaller : Float → Float → Float
 smaller a b = cond (lt b a) b a
 
 -- smaller with a maximum that may be missing
-unfoldable pub capped : Float → OptionF32 → Float
+unfoldable pub capped : Float → Option Float → Float
 capped x None = x
 capped x (Some m) = smaller x m
 
 -- larger with a minimum that may be missing
-unfoldable pub floored : Float → OptionF32 → Float
+unfoldable pub floored : Float → Option Float → Float
 floored x None = x
 floored x (Some m) = larger x m
 
 -- clamp: smaller with max, then larger with min
-unfoldable pub clamped : Float → OptionF32 → OptionF32 → Float
+unfoldable pub clamped : Float → Option Float → Option Float → Float
 clamped x lo hi = floored (capped x hi) lo

@@ -30,6 +30,7 @@ pub fn lower(words: &[u32], rows: &mut [f32], marks: &[u32], shift: f32)
     ensures { LoweredRows words.now rows.old marks.now shift rows.new }
 {
     let mut a = 0usize;
+    // No `for`: a step is as long as its run.
     while style::WORDS * a < words.len() {
         let y = style::ROW * a + 1;
         let m = style::MARKS * a + 1;
@@ -44,6 +45,7 @@ pub fn keep_below(words: &[u32], rows: &mut [f32], marks: &mut [u32])
     ensures { KeptBelow words.now rows.old marks.old rows.new marks.new }
 {
     let mut i = 0usize;
+    // No `for`: a step is as long as its run.
     while style::WORDS * i < words.len() {
         let e = i + style::word(words, i, style::SIZE) as usize;
         let i16 = style::ROW * i;

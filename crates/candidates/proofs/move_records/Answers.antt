@@ -63,12 +63,6 @@ offset_bounds-triples-k-in-loop-i-5 c = let w = c.requires in let i = c.loop-i.i
 pub bounds-triples-k-in-loop-i-5 : goal.bounds-triples-k-in-loop-i-5
 bounds-triples-k-in-loop-i-5 c = let w = c.requires in let i = c.loop-i.invariant in simp length-set (omega (arith, i.0, i.1))
 
-pub overflow_add-i : goal.overflow_add-i
-overflow_add-i c = let w = c.requires in let i = c.loop-i.invariant in omega (arith, i.0, i.1)
-
-pub loop-i-smaller : goal.loop-i-smaller
-loop-i-smaller c = let w = c.requires in let i = c.loop-i.invariant in omega (arith, i.0, i.1)
-
 pub loop-i-preserved : goal.loop-i-preserved
 loop-i-preserved c = let i = c.loop-i.invariant in (simp length-set i.0, omega (arith, c.loop-i-test.true), λ l z e h. turn _ _ _ l z _ _ (i.2 l z e h) h c.loop-i-test.true)
 

@@ -11,6 +11,3 @@ use Rattle.candidates.proofs.move_records.Given as goal
 
 abbrev pub invariant-loop-i : goal.invariant-loop-i
 invariant-loop-i v = (length v.triples ≡ length v.initial.triples) × (v.i ≤ v.n) × ((l : List Candidate) (z : List Float) → v.initial.triples ≡ listed candidate_numbers l ++ z → length l ≡ v.n → Rest v.triples v.x v.y l z v.i)
-
-abbrev pub decreases-loop-i : goal.decreases-loop-i
-decreases-loop-i l = l.n - l.i

@@ -1,6 +1,5 @@
 use mathlib.Core.Path.{refl}
 use Rattle.coarse.specs.Coarse.{bad_out}
-use borrow.Author.Rules.{rules}
 use Rattle.coarse.proofs.bad_out.Goals as goal
 
 pub returns : goal.returns

@@ -1,11 +1,10 @@
-use mathlib.Core.Path.{◌≡◌, sym, ap, ◌∙◌}
-use Prim.Native.Nat.{ℕ, ◌≤◌}
+use mathlib.Core.Path.{sym, ap, ◌∙◌}
+use Prim.Native.Nat.{ℕ}
 use native.Mathlib.Omega.{arith}
 use lib.Ieee.{Float}
 use Rattle.edges.specs.Edges.{row_number}
-use Rattle.coarse.specs.Above.{stacked, climb, climbed}
+use Rattle.coarse.specs.Above.{stacked}
 use Rattle.coarse.proofs.Above.{climb_start, climb_turn, climb_end}
-use borrow.Author.Rules.{rules}
 use Rattle.coarse.proofs.edge.Goals as goal
 
 pub loop-k-init : goal.loop-k-init

@@ -1,5 +1,4 @@
 use Rattle.coarse.specs.Panel.{laid_at}
-use borrow.Author.Rules.{rules}
 use Rattle.coarse.proofs.is_laid.Goals as goal
 
 pub returns : goal.returns

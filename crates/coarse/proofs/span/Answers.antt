@@ -1,5 +1,4 @@
 use Rattle.coarse.specs.Panel.{span_of}
-use borrow.Author.Rules.{rules}
 use Rattle.coarse.proofs.span.Goals as goal
 
 pub returns : goal.returns

@@ -1,5 +1,4 @@
 use Rattle.coarse.specs.Panel.{too_far}
-use borrow.Author.Rules.{rules}
 use Rattle.coarse.proofs.too_far.Goals as goal
 
 pub returns-then-too_large : goal.returns-then-too_large

@@ -1,9 +1,9 @@
+use Rattle.std.specs.Prelude.{None}
 use borrow.Author.Rules.{rules}
 use native.Mathlib.Omega.{arith}
 use mathlib.Core.Path.{◌≡◌, sym, ◌∙◌}
 use Prim.Native.Nat.{◌≤◌, ◌-◌}
 use Rattle.steps.specs.Scan.{scan, at_node}
-use Rattle.steps.specs.declared.Found.TheVariants.{Nowhere}
 use Rattle.scans.specs.Scans.{pass, here, over, start}
 use Rattle.steps.specs.Page.{nodes_in}
 use Rattle.steps.specs.Noes.{bad_codes}
@@ -11,21 +11,21 @@ use Rattle.codes.proofs.first_bad_codes.Goals as goal
 
 pub loop-i-init : goal.loop-i-init
 loop-i-init c = let a = c.args in
-    (omega arith, start (bad_codes a.words.now) at_node Nowhere (nodes_in a.words.now))
+    (omega arith, start (bad_codes a.words.now) at_node None (nodes_in a.words.now))
 
 pub returns-then-bad_codes : goal.returns-then-bad_codes
 returns-then-bad_codes c = let a = c.args in
     let l = c.loop-i in
-    sym (l.invariant.1 ∙ here (bad_codes a.words.now) at_node Nowhere (nodes_in a.words.now) l.i (omega arith) (sym c.bad_codes.ensures ∙ c.if-bad_codes.true))
+    sym (l.invariant.1 ∙ here (bad_codes a.words.now) at_node None (nodes_in a.words.now) l.i (omega arith) (sym c.bad_codes.ensures ∙ c.if-bad_codes.true))
 
 pub loop-i-preserved : goal.loop-i-preserved
 loop-i-preserved c = let a = c.args in
     let l = c.loop-i in (
       omega arith,
-      l.invariant.1 ∙ pass (bad_codes a.words.now) at_node Nowhere (nodes_in a.words.now) l.i (omega arith) (sym c.bad_codes.ensures ∙ c.if-bad_codes.false),
+      l.invariant.1 ∙ pass (bad_codes a.words.now) at_node None (nodes_in a.words.now) l.i (omega arith) (sym c.bad_codes.ensures ∙ c.if-bad_codes.false),
     )
 
 pub returns : goal.returns
 returns c = let a = c.args in
     let l = c.loop-i in
-    sym (l.invariant.1 ∙ over (bad_codes a.words.now) at_node Nowhere (nodes_in a.words.now) l.i (omega arith))
+    sym (l.invariant.1 ∙ over (bad_codes a.words.now) at_node None (nodes_in a.words.now) l.i (omega arith))

@@ -1,6 +1,5 @@
 use borrow.Author.Tests.{lt-ltb, le-ltb, eq-eqb, ne_eqb}
 use Rattle.edges.specs.Tests.{bad_words}
-use borrow.Author.Rules.{rules}
 use Rattle.edges.proofs.bad_words.Goals as goal
 
 pub returns-then-n-eq0 : goal.returns-then-n-eq0

@@ -1,10 +1,9 @@
-use mathlib.Core.Path.{◌≡◌, sym, ap, ◌∙◌}
-use Prim.Native.Nat.{ℕ, ◌-◌, ◌≤◌}
+use mathlib.Core.Path.{sym, ap, ◌∙◌}
+use Prim.Native.Nat.{ℕ, ◌-◌}
 use native.Mathlib.Omega.{arith}
 use lib.Ieee.{Float, add, binary32}
-use borrow.Author.Rules.{rules}
 use Rattle.steps.specs.Noes.{holds}
-use Rattle.edges.specs.Edges.{row_number, outward, edge_by}
+use Rattle.edges.specs.Edges.{row_number, outward}
 use Rattle.edges.proofs.Outward.{ended, held, passed, runs-over, runs-short, edge_start}
 use Rattle.edges.proofs.near_edge.Goals as goal
 

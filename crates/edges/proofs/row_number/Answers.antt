@@ -1,7 +1,6 @@
 use Prim.Native.Nat.{◌+◌, ◌*◌}
 use native.Mathlib.Omega.{arith}
 use Rattle.lent.proofs.Reading.{get_d_any, get_d_past}
-use borrow.Author.Rules.{rules}
 use Rattle.edges.proofs.row_number.Goals as goal
 
 pub returns-then-at-rows : goal.returns-then-at-rows

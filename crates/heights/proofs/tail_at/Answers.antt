@@ -5,4 +5,4 @@ use Rattle.heights.proofs.tail_at.Goals as goal
 
 pub returns : goal.returns
 unfolding tail_of style_in
-returns c = rw (← c.reader_at-r.ensures.style, c.resolve_or_zero-2.ensures, c.margin_bottom.ensures, c.resolve_or_zero.ensures, c.margin_top.ensures, c.flag-2.ensures, c.flag.ensures, c.align_of.ensures)
+returns c = rw (← c.at-r.ensures, c.resolve_or_zero-2.ensures, c.margin_bottom.ensures, c.resolve_or_zero.ensures, c.margin_top.ensures, c.flag-2.ensures, c.flag.ensures, c.align_of.ensures)

@@ -11,6 +11,3 @@ use Rattle.index.proofs.put_edges.Given as goal
 abbrev pub invariant-loop-k : goal.invariant-loop-k
 invariant-loop-k l = (l.k ≤ length l.list) × (length l.tops ≡ length l.list) × (length l.bottoms ≡ length l.list)
     × (l.tops ≡ take l.k (map (top_by l.words l.rows) l.list) ++ drop l.k l.initial.tops) × (l.bottoms ≡ take l.k (map (bottom_by l.words l.rows) l.list) ++ drop l.k l.initial.bottoms)
-
-abbrev pub decreases-loop-k : goal.decreases-loop-k
-decreases-loop-k l = length l.list - l.k

@@ -12,6 +12,3 @@ use Rattle.index.proofs.put_running.Given as goal
 
 abbrev pub invariant-loop-k : goal.invariant-loop-k
 invariant-loop-k l = (l.k ≤ length l.bottoms) × (length l.running ≡ length l.bottoms) × (l.running ≡ take l.k (running_of l.bottoms) ++ drop l.k l.initial.running) × (drop l.k (running_of l.bottoms) ≡ running_from l.most (drop l.k l.bottoms))
-
-abbrev pub decreases-loop-k : goal.decreases-loop-k
-decreases-loop-k l = length l.bottoms - l.k

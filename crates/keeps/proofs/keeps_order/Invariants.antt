@@ -12,6 +12,3 @@ use Rattle.keeps.proofs.keeps_order.Given as goal
 -- no node up to i is at fault: what is left decides
 abbrev pub invariant-loop-i : goal.invariant-loop-i
 invariant-loop-i l = (l.i ≤ nodes_in l.words) × (scan (unsteady l.words l.numbers) (λ _. true) false 0 (nodes_in l.words) ≡ scan (unsteady l.words l.numbers) (λ _. true) false l.i (nodes_in l.words - l.i))
-
-abbrev pub decreases-loop-i : goal.decreases-loop-i
-decreases-loop-i l = nodes_in l.words - l.i

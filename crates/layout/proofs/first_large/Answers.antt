@@ -1,14 +1,13 @@
-use mathlib.Core.Path.{◌≡◌, sym, ◌∙◌}
-use Prim.Native.Nat.{◌-◌, ◌≤◌}
+use Rattle.std.specs.Prelude.{None}
+use mathlib.Core.Path.{sym, ◌∙◌}
 use native.Mathlib.Omega.{arith}
-use Rattle.steps.specs.Scan.{scan, at_node}
+use Rattle.steps.specs.Scan.{at_node}
 use Rattle.steps.specs.Noes.{bad_row}
-use Rattle.steps.specs.declared.Found.TheVariants.{Nowhere}
 use Rattle.tables.proofs.ScanLaws.{pass, here, over, start}
 use Rattle.layout.proofs.first_large.Goals as goal
 
 pub loop-i-init : goal.loop-i-init
-loop-i-init c = (omega arith, start (bad_row c.args.rows.now) at_node Nowhere c.args.n)
+loop-i-init c = (omega arith, start (bad_row c.args.rows.now) at_node None c.args.n)
 
 pub row_large-requires : goal.row_large-requires
 row_large-requires c = let w = c.requires in omega (arith, w.long, c.loop-i-test.true)
@@ -17,16 +16,10 @@ pub overflow_cast-result : goal.overflow_cast-result
 overflow_cast-result c = let w = c.requires in omega (arith, w.few, c.loop-i.invariant.0)
 
 pub returns-then-row_large : goal.returns-then-row_large
-returns-then-row_large c = sym (c.loop-i.invariant.1 ∙ here (bad_row c.args.rows.now) at_node Nowhere c.args.n c.loop-i.i c.loop-i-test.true (sym c.row_large.ensures ∙ c.if-row_large.true))
-
-pub overflow_add-i : goal.overflow_add-i
-overflow_add-i c = let w = c.requires in omega (arith, w.few, c.loop-i.invariant.0)
-
-pub loop-i-smaller : goal.loop-i-smaller
-loop-i-smaller c = let w = c.requires in omega (arith, w.few, c.loop-i.invariant.0)
+returns-then-row_large c = sym (c.loop-i.invariant.1 ∙ here (bad_row c.args.rows.now) at_node None c.args.n c.loop-i.i c.loop-i-test.true (sym c.row_large.ensures ∙ c.if-row_large.true))
 
 pub loop-i-preserved : goal.loop-i-preserved
-loop-i-preserved c = (omega (arith, c.loop-i-test.true), c.loop-i.invariant.1 ∙ pass (bad_row c.args.rows.now) at_node Nowhere c.args.n c.loop-i.i c.loop-i-test.true (sym c.row_large.ensures ∙ c.if-row_large.false))
+loop-i-preserved c = (omega (arith, c.loop-i-test.true), c.loop-i.invariant.1 ∙ pass (bad_row c.args.rows.now) at_node None c.args.n c.loop-i.i c.loop-i-test.true (sym c.row_large.ensures ∙ c.if-row_large.false))
 
 pub returns : goal.returns
-returns c = sym (c.loop-i.invariant.1 ∙ over (bad_row c.args.rows.now) at_node Nowhere c.args.n c.loop-i.i c.loop-i-test.false)
+returns c = sym (c.loop-i.invariant.1 ∙ over (bad_row c.args.rows.now) at_node None c.args.n c.loop-i.i c.loop-i-test.false)

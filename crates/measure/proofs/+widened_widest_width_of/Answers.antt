@@ -13,20 +13,20 @@ use Rattle.measure.proofs.OneNode.{width-at-once, width-inside, nothing-widened,
 use Rattle.widths.specs.AtOnce.{width_at_once}
 use Rattle.measure.proofs.+widened_widest_width_of.Goals as goal
 
-pub widened-reader_at-r-requires : goal.widened-reader_at-r-requires
-widened-reader_at-r-requires t c = let f = facts _ _ _ _ c.requires in (f.words_some, f.reach)
+pub widened-at-r-requires : goal.widened-at-r-requires
+widened-at-r-requires t c = let f = facts _ _ _ _ c.requires in (f.words_some, f.reach)
 
 pub widened-width_of-w-requires : goal.widened-width_of-w-requires
 widened-width_of-w-requires t c = (omega (arith, c.decreases), c.requires)
 
 pub widened-returns-in-Nothing : goal.widened-returns-in-Nothing
-widened-returns-in-Nothing t c = nothing-widened c.args.words.now c.args.numbers.now c.args.base _ c.reader_at-r.ensures.style c.args.a c.args.most _ c.want_of-want.ensures c.in-Nothing.is
+widened-returns-in-Nothing t c = nothing-widened c.args.words.now c.args.numbers.now c.args.base _ c.at-r.ensures c.args.a c.args.most _ c.want_of-want.ensures c.in-Nothing.is
 
 pub widened-returns-in-Outer : goal.widened-returns-in-Outer
-widened-returns-in-Outer t c = outer-widened c.args.words.now c.args.numbers.now c.args.base _ c.reader_at-r.ensures.style c.args.a c.args.most _ c.want_of-want.ensures _ _ c.in-Outer.is c.f32_max.ensures
+widened-returns-in-Outer t c = outer-widened c.args.words.now c.args.numbers.now c.args.base _ c.at-r.ensures c.args.a c.args.most _ c.want_of-want.ensures _ _ c.in-Outer.is c.f32_max.ensures
 
 pub widened-returns-in-Probe : goal.widened-returns-in-Probe
-widened-returns-in-Probe t c = probe-widened c.args.words.now c.args.numbers.now c.args.base _ c.reader_at-r.ensures.style c.args.a c.args.most _ c.want_of-want.ensures _ _ _ _ c.in-Probe.is c.width_of-w.ensures c.outer_width-o.ensures c.f32_max-in-Probe.ensures
+widened-returns-in-Probe t c = probe-widened c.args.words.now c.args.numbers.now c.args.base _ c.at-r.ensures c.args.a c.args.most _ c.want_of-want.ensures _ _ _ _ c.in-Probe.is c.width_of-w.ensures c.outer_width-o.ensures c.f32_max-in-Probe.ensures
 
 pub widest-loop-i-init : goal.widest-loop-i-init
 widest-loop-i-init t c = (omega arith, wide_begin c.args.words.now c.args.numbers.now c.args.base c.args.a _ refl)
@@ -76,8 +76,8 @@ widest-returns t c = λ ts h. wide_end _ _ _ _ ts _ _ (c.loop-i.invariant.1 ts h
 pub width_of-width_at_once-width-requires : goal.width_of-width_at_once-width-requires
 width_of-width_at_once-width-requires t c = let f = facts _ _ _ _ c.requires in (f.words_some, f.reach)
 
-pub width_of-reader_at-r-requires : goal.width_of-reader_at-r-requires
-width_of-reader_at-r-requires t c = let f = facts _ _ _ _ c.requires in (f.words_some, f.reach)
+pub width_of-at-r-requires : goal.width_of-at-r-requires
+width_of-at-r-requires t c = let f = facts _ _ _ _ c.requires in (f.words_some, f.reach)
 
 pub width_of-slice_bounds-widest-count : goal.width_of-slice_bounds-widest-count
 width_of-slice_bounds-widest-count t c = let f = facts _ _ _ _ c.requires in omega arith
@@ -101,4 +101,4 @@ pub width_of-returns-in-Some : goal.width_of-returns-in-Some
 width_of-returns-in-Some t c = width-at-once c.args.words.now c.args.numbers.now c.args.base _ refl c.args.q _ (sym c.width_at_once-width.ensures ∙ c.in-Some.is)
 
 pub width_of-returns-in-None : goal.width_of-returns-in-None
-width_of-returns-in-None t c = width-inside c.args.words.now c.args.numbers.now c.args.base _ c.reader_at-r.ensures.style c.args.q _ _ _ (ap (λ (z : Style). width_at_once z c.args.q) c.reader_at-r.ensures.style ∙ sym c.width_at_once-width.ensures ∙ c.in-None.is) c.available_inside-room.ensures c.widest-most.ensures c.width_from.ensures
+width_of-returns-in-None t c = width-inside c.args.words.now c.args.numbers.now c.args.base _ c.at-r.ensures c.args.q _ _ _ (ap (λ (z : Style). width_at_once z c.args.q) c.at-r.ensures ∙ sym c.width_at_once-width.ensures ∙ c.in-None.is) c.available_inside-room.ensures c.widest-most.ensures c.width_from.ensures

@@ -2,9 +2,9 @@ use Rattle.steps.specs.Noes.{no4, and_then, at_fault}
 use borrow.Author.Rules.{rules}
 use Rattle.numbers.proofs.numbers_tested.Goals as goal
 
-pub returns-in-At : goal.returns-in-At
+pub returns-in-Some : goal.returns-in-Some
 unfolding no4 and_then at_fault
-returns-in-At c = rw (← c.first_bad_numbers.ensures, c.in-At.is)
+returns-in-Some c = rw (← c.first_bad_numbers.ensures, c.in-Some.is)
 
 pub returns-then-bad_question : goal.returns-then-bad_question
 unfolding no4 and_then at_fault

@@ -13,6 +13,3 @@ yes _ = true
 
 abbrev pub invariant-loop-f : goal.invariant-loop-f
 invariant-loop-f l = (l.from ≤ l.f) × (l.f ≤ l.to) × (scan (bad_field_at l.u l.v l.numbers l.i) yes false l.from (l.to - l.from) ≡ scan (bad_field_at l.u l.v l.numbers l.i) yes false l.f (l.to - l.f))
-
-abbrev pub decreases-loop-f : goal.decreases-loop-f
-decreases-loop-f l = l.to - l.f

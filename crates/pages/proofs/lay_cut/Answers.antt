@@ -1,15 +1,10 @@
-use native.Mathlib.Omega.{arith}
-use mathlib.Core.Path.{◌≡◌, refl, sym, ◌∙◌, ap, subst}
-use mathlib.Core.List.{List, [], ◌∷◌}
-use Prim.Native.Nat.{ℕ, ◌+◌, ◌-◌, ◌*◌, ◌≤◌, ◌<◌}
-use lib.ListN.{length, take, replicate}
-use Rattle.print.specs.Pen.{Pen, pen, put_all}
+use mathlib.Core.Path.{◌∙◌, ap}
+use mathlib.Core.List.{List}
+use Prim.Native.Nat.{ℕ}
+use Rattle.print.specs.Pen.{pen, put_all}
 use Rattle.steps.specs.Question.{root_input}
 use Rattle.steps.specs.Results.{layout_result}
-use Rattle.pages.proofs.PageText.{reply_text_lem, cut, cut_long, long, laid-text}
-use borrow.Author.Rules.{rules}
-use Rattle.layout.proofs.layout.Reads as layout-reads
-use Rattle.print.proofs.print_answer.Reads as print-answer-reads
+use Rattle.pages.proofs.PageText.{reply_text_lem}
 use Rattle.pages.proofs.lay_cut.Goals as goal
 
 pub returns : goal.returns

@@ -1,14 +1,10 @@
 use native.Mathlib.Omega.{arith}
-use mathlib.Core.Path.{◌≡◌, refl, sym, ◌∙◌, ap, subst}
-use mathlib.Core.List.{List, [], ◌∷◌}
-use Prim.Native.Nat.{ℕ, ◌+◌, ◌-◌, ◌*◌, ◌≤◌, ◌<◌}
-use lib.ListN.{length, take, replicate}
-use Rattle.print.specs.Pen.{Pen, pen, put_all}
-use Rattle.steps.specs.Results.{layout_result}
-use Rattle.pages.proofs.PageText.{reply_text_lem, cut, cut_long, long, laid-text}
+use mathlib.Core.Path.{◌∙◌, ap}
+use mathlib.Core.List.{List}
+use Prim.Native.Nat.{ℕ, ◌*◌}
+use Rattle.print.specs.Pen.{pen, put_all}
+use Rattle.pages.proofs.PageText.{cut_long, long, laid-text}
 use Rattle.geometry.specs.Geometry.{zero_f}
-use borrow.Author.Rules.{rules}
-use Rattle.pages.proofs.lay_cut.Reads as lay-cut-reads
 use Rattle.pages.proofs.lay_in.Goals as goal
 
 pub slice_bounds-lay_cut-end : goal.slice_bounds-lay_cut-end

@@ -1,27 +1,24 @@
-use Prim.Native.Nat.{ℕ, ◌<◌, ◌+◌, ◌-◌, ◌*◌, ◌/◌, ◌%◌, ◌≤◌}
-use native.Mathlib.Omega.{arith}
-use mathlib.Core.Path.{◌≡◌, refl, sym, ◌∙◌, ap}
-use mathlib.Core.Bool.{Bool, true, false, cond}
-use mathlib.Core.List.{List, [], ◌∷◌, ◌++◌, append-nil}
-use lib.ListN.{length, take, drop, get_or}
-use borrow.Author.Tests.{lt-ltb, le-ltb, eq-eqb, ne_eqb}
-use Rattle.print.specs.Pen.{pen, put_all}
-use Rattle.style.specs.Codes.{flag_at}
-use Rattle.print.proofs.PenLaws.{put_append, nothing, then, each_step, each_none}
-use Rattle.print.specs.Text.{answer_text, accepted_text, page_text}
-use borrow.Author.Rules.{rules}
-use Rattle.steps.proofs.number_of.Reads as number-of-reads
-use Rattle.steps.proofs.place_of.Reads as place-of-reads
-use Rattle.print.proofs.put_answer.Reads as put-answer-reads
-use Rattle.print.proofs.put_laid.Reads as put-laid-reads
+use Rattle.std.proofs.Common.{◌≡◌, refl, false, eqb, append-nil, Err}
+use Rattle.steps.specs.declared.Refusal.{Refusal}
+use Rattle.steps.specs.declared.Refusal.TheVariants.{Lengths, Tree, Codes, Numbers, Room, Edits, NotLaid, TooLarge}
+use Rattle.steps.specs.Noes.{paper, refusal_paper}
+use Rattle.print.specs.Text.{page_text}
 use Rattle.print.proofs.print_answer.Goals as goal
 
-pub returns-then-number-eq0 : goal.returns-then-number-eq0
-unfolding page_text
-returns-then-number-eq0 c = let a = c.args in
-    rw (← c.number_of-number.ensures, ← c.place_of-place.ensures, eq-eqb _ _ c.if-number-eq0.true) (simp put_append (rw (c.put_laid.ensures, c.put_answer-a.ensures)))
+-- a refusal's number is not 0
+refused : (r : Refusal) → eqb (paper (Err r)).0 0 ≡ false
+unfolding paper refusal_paper
+refused Lengths = refl
+refused (Tree i) = refl
+refused (Codes i) = refl
+refused (Numbers k) = refl
+refused Room = refl
+refused (Edits k) = refl
+refused NotLaid = refl
+refused (TooLarge i) = refl
 
-pub returns : goal.returns
+pub returns-in-Err : goal.returns-in-Err
 unfolding page_text
-returns c = let a = c.args in
-    rw (← c.number_of-number.ensures, ← c.place_of-place.ensures, ne_eqb _ _ c.if-number-eq0.false, append-nil) c.put_answer-a.ensures
+returns-in-Err c =
+    let e : eqb (paper c.args.answer).0 0 ≡ false = rw c.in-Err.is (refused c.in-Err.field-0) in
+    rw (e, append-nil, ← c.number_of.ensures, ← c.place_of.ensures) c.put_answer-at.ensures

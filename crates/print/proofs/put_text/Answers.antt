@@ -1,25 +1,12 @@
-use borrow.Author.Rules.{rules}
-use Prim.Native.Nat.{ℕ, ◌<◌, ◌+◌, ◌-◌, ◌*◌, ◌/◌, ◌%◌, ◌≤◌}
-use native.Mathlib.Omega.{arith}
-use mathlib.Core.Path.{◌≡◌, refl, sym, ◌∙◌, ap}
-use mathlib.Core.Bool.{Bool, true, false, cond}
-use mathlib.Core.List.{List, [], ◌∷◌, ◌++◌}
-use lib.ListN.{length, take, drop, get_or}
-use borrow.Author.Tests.{lt-ltb, le-ltb}
-use Rattle.print.specs.Pen.{pen, put_all}
-use Rattle.print.proofs.PenLaws.{put_append, full, room, nothing, then, text_step, text_end, one_digit, more_digits, more_hex, no_digits, no_hex}
-use Rattle.print.proofs.put.Reads as put_reads
+use Rattle.std.proofs.Common.{sym, ◌∙◌, arith}
+use Rattle.print.specs.Pen.{pen}
+use Rattle.print.proofs.PenLaws.{text_step, text_end}
 use Rattle.print.proofs.put_text.Goals as goal
 
-pub loop-i-init : goal.loop-i-init
-loop-i-init c = (search rules, refl, refl)
-
-pub loop-i-preserved : goal.loop-i-preserved
-loop-i-preserved c = let l = c.loop-i in
-    let a = c.args in
-    (search rules, search rules, l.invariant.2 ∙ text_step a.s.now l.i (pen l.out l.a) (pen c.put-a.new.out c.put-a.result) (omega arith) c.put-a.ensures)
+pub loop-b-preserved : goal.loop-b-preserved
+loop-b-preserved c = let l = c.loop-b in
+    l.invariant ∙ text_step c.args.s.now l.b-index (pen l.out l.at) (pen c.put-at.new.out c.put-at.result) (omega arith) c.put-at.ensures
 
 pub returns : goal.returns
-returns c = let l = c.loop-i in
-    let a = c.args in
-    sym (l.invariant.2 ∙ text_end a.s.now l.i (pen l.out l.a) c.loop-i-test.false)
+returns c = let l = c.loop-b in
+    sym (l.invariant ∙ text_end c.args.s.now l.b-index (pen l.out l.at) c.loop-b-test.false)

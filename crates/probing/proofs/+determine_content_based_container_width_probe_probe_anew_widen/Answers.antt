@@ -144,8 +144,8 @@ probe_anew-width_at_once-width-requires t c = let f = facts _ _ _ _ _ _ _ c.requ
 pub probe_anew-clear_rest-requires : goal.probe_anew-clear_rest-requires
 probe_anew-clear_rest-requires t c = let f = facts _ _ _ _ _ _ _ c.requires in all_rows f.room f.whole
 
-pub probe_anew-reader_at-r-requires : goal.probe_anew-reader_at-r-requires
-probe_anew-reader_at-r-requires t c = let f = facts _ _ _ _ _ _ _ c.requires in (f.words_some, f.reach)
+pub probe_anew-at-r-requires : goal.probe_anew-at-r-requires
+probe_anew-at-r-requires t c = let f = facts _ _ _ _ _ _ _ c.requires in (f.words_some, f.reach)
 
 pub probe_anew-slice_bounds-determine_content_based_container_width-count : goal.probe_anew-slice_bounds-determine_content_based_container_width-count
 probe_anew-slice_bounds-determine_content_based_container_width-count t c = let f = facts _ _ _ _ _ _ _ c.requires in omega arith
@@ -199,10 +199,10 @@ pub probe_anew-shape_of-marks-in-None : goal.probe_anew-shape_of-marks-in-None
 probe_anew-shape_of-marks-in-None t c = let f = facts _ _ _ _ _ _ _ c.requires in omega arith
 
 pub probe_anew-returns-in-None : goal.probe_anew-returns-in-None
-probe_anew-returns-in-None t c = anew-inside c.args.words.now c.args.numbers.now c.args.rows.now c.args.marks.now c.args.edits.now c.args.base c.args.q _ c.reader_at-r.ensures.style _ _ _ _ _ (ap (λ (z : Style). width_at_once z c.args.q) c.reader_at-r.ensures.style ∙ sym c.width_at_once-width.ensures ∙ c.in-None.is) c.available_inside-inside.ensures c.determine_content_based_container_width-most.ensures c.width_from.ensures
+probe_anew-returns-in-None t c = anew-inside c.args.words.now c.args.numbers.now c.args.rows.now c.args.marks.now c.args.edits.now c.args.base c.args.q _ c.at-r.ensures _ _ _ _ _ (ap (λ (z : Style). width_at_once z c.args.q) c.at-r.ensures ∙ sym c.width_at_once-width.ensures ∙ c.in-None.is) c.available_inside-inside.ensures c.determine_content_based_container_width-most.ensures c.width_from.ensures
 
-pub widen-reader_at-r-requires : goal.widen-reader_at-r-requires
-widen-reader_at-r-requires t c = let f = facts _ _ _ _ _ _ _ c.requires in (f.words_some, f.reach)
+pub widen-at-r-requires : goal.widen-at-r-requires
+widen-at-r-requires t c = let f = facts _ _ _ _ _ _ _ c.requires in (f.words_some, f.reach)
 
 pub widen-probe-w-requires : goal.widen-probe-w-requires
 widen-probe-w-requires t c = (omega (arith, c.decreases), c.requires)
@@ -214,7 +214,7 @@ pub widen-shape_of-marks-in-Probe : goal.widen-shape_of-marks-in-Probe
 widen-shape_of-marks-in-Probe t c = let f = facts _ _ _ _ _ _ _ c.requires in omega arith
 
 pub widen-returns-in-Probe : goal.widen-returns-in-Probe
-widen-returns-in-Probe t c = widened-probe c.args.words.now c.args.numbers.now c.args.rows.now c.args.marks.now c.args.edits.now c.args.base c.args.a c.args.most _ _ _ _ c.reader_at-r.ensures.style c.want_of-want.ensures _ _ _ _ c.in-Probe.is c.probe-w.ensures c.outer_width.ensures c.f32_max.ensures
+widen-returns-in-Probe t c = widened-probe c.args.words.now c.args.numbers.now c.args.rows.now c.args.marks.now c.args.edits.now c.args.base c.args.a c.args.most _ _ _ _ c.at-r.ensures c.want_of-want.ensures _ _ _ _ c.in-Probe.is c.probe-w.ensures c.outer_width.ensures c.f32_max.ensures
 
 pub widen-clear_probes-requires : goal.widen-clear_probes-requires
 widen-clear_probes-requires t c = let f = facts _ _ _ _ _ _ _ c.requires in f.whole
@@ -226,4 +226,4 @@ pub widen-shape_of-marks : goal.widen-shape_of-marks
 widen-shape_of-marks t c = let f = facts _ _ _ _ _ _ _ c.requires in omega arith
 
 pub widen-returns : goal.widen-returns
-widen-returns t c = widened-past c.args.words.now c.args.numbers.now c.args.rows.now c.args.marks.now c.args.edits.now c.args.base c.args.a c.args.most _ _ _ _ c.reader_at-r.ensures.style c.want_of-want.ensures _ (opened c.in_default.in_default-own.keys2) c.clear_probes.ensures c.most_past.ensures
+widen-returns t c = widened-past c.args.words.now c.args.numbers.now c.args.rows.now c.args.marks.now c.args.edits.now c.args.base c.args.a c.args.most _ _ _ _ c.at-r.ensures c.want_of-want.ensures _ (opened c.in_default.in_default-own.keys2) c.clear_probes.ensures c.most_past.ensures

@@ -5,8 +5,8 @@ use Rattle.probing.proofs.OnePage.{kids_given, passed-known, passed-below}
 use borrow.Author.Rules.{rules}
 use Rattle.probing.proofs.width_pass.Goals as goal
 
-pub reader_at-r-requires : goal.reader_at-r-requires
-reader_at-r-requires c = let f = facts _ _ _ _ _ _ _ c.requires in (f.words_some, f.reach)
+pub at-r-requires : goal.at-r-requires
+at-r-requires c = let f = facts _ _ _ _ _ _ _ c.requires in (f.words_some, f.reach)
 
 pub clear_probes-requires : goal.clear_probes-requires
 clear_probes-requires c = let f = facts _ _ _ _ _ _ _ c.requires in f.whole
@@ -44,9 +44,6 @@ slice_bounds-determine_content_based_container_width-end-in-None-2 c = let f = f
 pub determine_content_based_container_width-most-requires : goal.determine_content_based_container_width-most-requires
 determine_content_based_container_width-most-requires c = kids_given c.args.words.now c.args.numbers.now c.args.rows.now c.args.marks.now c.args.edits.now _ _ c.requires c.clear_first.ensures
 
-pub width_from-requires : goal.width_from-requires
-width_from-requires c = c.reader_at-r.ensures.reads
-
 pub shape_of-rows-in-Some : goal.shape_of-rows-in-Some
 shape_of-rows-in-Some c = let f = facts _ _ _ _ _ _ _ c.requires in omega arith
 
@@ -54,7 +51,7 @@ pub shape_of-marks-in-Some : goal.shape_of-marks-in-Some
 shape_of-marks-in-Some c = let f = facts _ _ _ _ _ _ _ c.requires in omega arith
 
 pub returns-in-Some : goal.returns-in-Some
-returns-in-Some c = passed-known c.args.words.now c.args.numbers.now c.args.rows.now c.args.marks.now c.args.edits.now c.args.q _ _ _ c.reader_at-r.ensures.style c.sizing_without_height_basis-z.ensures (c.known_dimensions-known.ensures _ (sym c.ratio.ensures)) _ _ _ c.in-Some.is c.clear_probes.ensures
+returns-in-Some c = passed-known c.args.words.now c.args.numbers.now c.args.rows.now c.args.marks.now c.args.edits.now c.args.q _ _ _ c.at-r.ensures c.sizing_without_height_basis-z.ensures (c.known_dimensions-known.ensures _ (sym c.ratio.ensures)) _ _ _ c.in-Some.is c.clear_probes.ensures
 
 pub shape_of-rows-in-None : goal.shape_of-rows-in-None
 shape_of-rows-in-None c = let f = facts _ _ _ _ _ _ _ c.requires in omega arith
@@ -63,4 +60,4 @@ pub shape_of-marks-in-None : goal.shape_of-marks-in-None
 shape_of-marks-in-None c = let f = facts _ _ _ _ _ _ _ c.requires in omega arith
 
 pub returns-in-None : goal.returns-in-None
-returns-in-None c = passed-below c.args.words.now c.args.numbers.now c.args.rows.now c.args.marks.now c.args.edits.now c.args.q _ _ _ c.reader_at-r.ensures.style c.sizing_without_height_basis-z.ensures (c.known_dimensions-known.ensures _ (sym c.ratio.ensures)) _ _ _ _ _ _ _ c.in-None.is c.clear_first.ensures c.available_inside-inside.ensures c.determine_content_based_container_width-most.ensures c.width_from.ensures
+returns-in-None c = passed-below c.args.words.now c.args.numbers.now c.args.rows.now c.args.marks.now c.args.edits.now c.args.q _ _ _ c.at-r.ensures c.sizing_without_height_basis-z.ensures (c.known_dimensions-known.ensures _ (sym c.ratio.ensures)) _ _ _ _ _ _ _ c.in-None.is c.clear_first.ensures c.available_inside-inside.ensures c.determine_content_based_container_width-most.ensures c.width_from.ensures

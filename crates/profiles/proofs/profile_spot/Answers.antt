@@ -3,9 +3,9 @@ use native.Mathlib.Omega.{arith}
 use Rattle.profile.specs.Profile.{else_at, profile_spot}
 use Rattle.profiles.proofs.profile_spot.Goals as goal
 
-pub returns-in-At : goal.returns-in-At
+pub returns-in-Some : goal.returns-in-Some
 unfolding profile_spot else_at
-returns-in-At c = rw (← c.first_outside.ensures, c.in-At.is)
+returns-in-Some c = rw (← c.first_outside.ensures, c.in-Some.is)
 
 pub returns-then-whole_question : goal.returns-then-whole_question
 unfolding profile_spot else_at

@@ -12,6 +12,3 @@ use Rattle.profiles.proofs.some_broken.Given as goal
 -- no number up to f is broken: what is left decides
 abbrev pub invariant-loop-f : goal.invariant-loop-f
 invariant-loop-f l = (l.f ≤ 28) × (scan (broken l.u l.v l.numbers l.i) (λ _. true) false 0 28 ≡ scan (broken l.u l.v l.numbers l.i) (λ _. true) false l.f (28 - l.f))
-
-abbrev pub decreases-loop-f : goal.decreases-loop-f
-decreases-loop-f l = 28 - l.f

@@ -1,5 +1,5 @@
 use native.Mathlib.Omega.{arith}
-use mathlib.Core.Path.{◌≡◌, refl, sym, ◌∙◌, ap}
+use mathlib.Core.Path.{◌∙◌, ap}
 use mathlib.Core.List.{List}
 use Prim.Native.Nat.{ℕ}
 use Rattle.print.specs.Pen.{pen, put_all}
@@ -8,10 +8,6 @@ use Rattle.trace.proofs.Lines.{lines_rest}
 use Rattle.day.specs.Day.{day}
 use Rattle.replays.specs.Output.{day_text}
 use Rattle.replays.proofs.RunLaws.{day_shown}
-use borrow.Author.Rules.{rules}
-use Rattle.replays.proofs.run.run.Reads as run-reads
-use Rattle.rowtext.proofs.put_rows.Reads as put-rows-reads
-use Rattle.text.proofs.piece_end.Reads as piece-end-reads
 use Rattle.replays.proofs.replay_cut.Goals as goal
 
 pub put_rows-requires : goal.put_rows-requires

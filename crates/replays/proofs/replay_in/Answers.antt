@@ -1,7 +1,6 @@
 use native.Mathlib.Omega.{arith}
-use mathlib.Core.Path.{◌≡◌, refl, sym, ◌∙◌, ap}
-use mathlib.Core.List.{List}
-use Prim.Native.Nat.{ℕ, ◌*◌}
+use mathlib.Core.Path.{◌∙◌, ap}
+use Prim.Native.Nat.{◌*◌}
 use lib.ListN.{drop}
 use Rattle.geometry.specs.Geometry.{zero_f}
 use Rattle.text.specs.Pieces.{lines_of}
@@ -11,8 +10,6 @@ use Rattle.trace.specs.Event.{events_of}
 use Rattle.day.specs.Day.{Day}
 use Rattle.replays.specs.Output.{fields, day_text}
 use Rattle.replays.proofs.Start.{start_is}
-use borrow.Author.Rules.{rules}
-use Rattle.replays.proofs.replay_cut.Reads as replay-cut-reads
 use Rattle.replays.proofs.replay_in.Goals as goal
 
 pub slice_bounds-replay_cut-end-2 : goal.slice_bounds-replay_cut-end-2

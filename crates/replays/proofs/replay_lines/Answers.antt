@@ -1,5 +1,4 @@
 use borrow.Author.Rules.{rules}
-use Rattle.replays.proofs.replay_in.Reads as replay-in-reads
 use Rattle.replays.proofs.replay_lines.Goals as goal
 
 pub replay_in-requires : goal.replay_in-requires

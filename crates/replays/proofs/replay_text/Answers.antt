@@ -1,4 +1,4 @@
-use mathlib.Core.Path.{◌≡◌, refl, sym, ◌∙◌, ap}
+use mathlib.Core.Path.{◌∙◌, ap}
 use mathlib.Core.List.{List}
 use Prim.Native.Nat.{ℕ}
 use lib.ListN.{drop}
@@ -7,9 +7,6 @@ use Rattle.text.specs.Laws.{from_on}
 use Rattle.print.specs.Pen.{pen, put_all}
 use Rattle.trace.specs.Event.{events_of}
 use Rattle.replays.specs.Output.{day_text, start_of}
-use borrow.Author.Rules.{rules}
-use Rattle.replays.proofs.replay_lines.Reads as replay-lines-reads
-use Rattle.trace.proofs.events_start.Reads as events-start-reads
 use Rattle.replays.proofs.replay_text.Goals as goal
 
 pub returns : goal.returns

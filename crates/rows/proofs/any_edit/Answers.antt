@@ -8,10 +8,10 @@ use Rattle.rows.proofs.Edits.{touched_here, touched_pass, touched_over}
 use Rattle.rows.proofs.any_edit.Goals as goal
 
 pub returns-then-in_run : goal.returns-then-in_run
-returns-then-in_run c = sym (c.loop-i.invariant ∙ touched_here c.args.edits.now _ _ _ c.loop-i-test.true (sym c.in_run.ensures ∙ c.if-in_run.true))
+returns-then-in_run c = sym (c.loop-e.invariant ∙ touched_here c.args.edits.now _ _ _ c.loop-e-test.true (sym c.in_run.ensures ∙ c.if-in_run.true))
 
-pub loop-i-preserved : goal.loop-i-preserved
-loop-i-preserved c = c.loop-i.invariant ∙ touched_pass c.args.edits.now _ _ _ c.loop-i-test.true (sym c.in_run.ensures ∙ c.if-in_run.false)
+pub loop-e-preserved : goal.loop-e-preserved
+loop-e-preserved c = c.loop-e.invariant ∙ touched_pass c.args.edits.now _ _ _ c.loop-e-test.true (sym c.in_run.ensures ∙ c.if-in_run.false)
 
 pub returns : goal.returns
-returns c = sym (c.loop-i.invariant ∙ touched_over c.args.edits.now _ _ _ c.loop-i-test.false)
+returns c = sym (c.loop-e.invariant ∙ touched_over c.args.edits.now _ _ _ c.loop-e-test.false)

@@ -7,8 +7,5 @@ use Rattle.rows.specs.Edited.{touched}
 use Rattle.rows.proofs.Edits.{touched_here, touched_pass, touched_over}
 use Rattle.rows.proofs.any_edit.Given as goal
 
-abbrev pub invariant-loop-i : goal.invariant-loop-i
-invariant-loop-i l = touched l.edits l.base l.n ≡ touched (drop l.i l.edits) l.base l.n
-
-abbrev pub decreases-loop-i : goal.decreases-loop-i
-decreases-loop-i l = length l.edits - l.i
+abbrev pub invariant-loop-e : goal.invariant-loop-e
+invariant-loop-e l = touched l.edits l.base l.n ≡ touched (drop l.e-index l.edits) l.base l.n

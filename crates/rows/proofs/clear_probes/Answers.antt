@@ -12,9 +12,6 @@ use Rattle.rows.proofs.clear_probes.Goals as goal
 pub loop-i-init : goal.loop-i-init
 loop-i-init c = (refl, refl, omega arith, λ l er em. begin _ _ l er em)
 
-pub overflow_mul-i : goal.overflow_mul-i
-overflow_mul-i c = let w = c.requires in omega arith
-
 pub overflow_mul-k : goal.overflow_mul-k
 overflow_mul-k c = let w = c.requires in omega arith
 
@@ -63,9 +60,6 @@ offset_bounds-marks-m-in-loop-i c = let w = c.requires in omega arith
 pub bounds-marks-m-in-loop-i : goal.bounds-marks-m-in-loop-i
 bounds-marks-m-in-loop-i c = let w = c.requires in omega arith
 
-pub overflow_add-i : goal.overflow_add-i
-overflow_add-i c = let w = c.requires in omega arith
-
 pub loop-i-smaller : goal.loop-i-smaller
 loop-i-smaller c = let w = c.requires in omega arith
 
@@ -74,8 +68,8 @@ loop-i-preserved c = (
   simp length-set c.loop-i.invariant.0,
   simp length-set c.loop-i.invariant.1,
   let w = c.requires in omega (arith, c.loop-i.invariant.1),
-  λ l er em. turn _ _ l _ _ (c.loop-i.invariant.3 l er em) c.loop-i-test.true c.clear_bits.ensures,
+  λ l er em. turn _ _ l _ _ (c.loop-i.invariant.3 l er em) (let w = c.requires in omega (arith, c.loop-i.invariant.1, c.loop-i-test.true)) c.clear_bits.ensures,
 )
 
 pub returns : goal.returns
-returns c = λ l er em. end _ _ l _ (c.loop-i.invariant.3 l er em) c.loop-i-test.false
+returns c = λ l er em. end _ _ l _ (c.loop-i.invariant.3 l er em) (let w = c.requires in omega (arith, c.loop-i.invariant.1, c.loop-i-test.false))

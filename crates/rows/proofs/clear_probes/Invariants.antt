@@ -11,6 +11,3 @@ use Rattle.rows.proofs.clear_probes.Given as goal
 
 abbrev pub invariant-loop-i : goal.invariant-loop-i
 invariant-loop-i v = (length v.rows ≡ length v.initial.rows) × (length v.marks ≡ length v.initial.marks) × (2 * v.i ≤ length v.initial.marks) × ((l : List Row) → v.initial.rows ≡ listed row_numbers l → v.initial.marks ≡ listed row_words l → Rest v.rows v.marks l v.i)
-
-abbrev pub decreases-loop-i : goal.decreases-loop-i
-decreases-loop-i l = length l.initial.marks - l.i

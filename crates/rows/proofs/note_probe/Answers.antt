@@ -15,4 +15,4 @@ bounds-rows-13 c = simp length-set (omega arith)
 
 pub returns : goal.returns
 unfolding probed_row noted probe_note
-returns c = λ r z y er em. (rw (c.or_zero-2.ensures, c.or_zero.ensures, c.into_option.ensures, er), rw (c.probe_bits.ensures, c.is_some.ensures, em, probe_bits_lem r.bits _))
+returns c = λ r z y er em. (rw (c.unwrap_or-2.ensures, c.unwrap_or.ensures, c.into_option.ensures, er), rw (c.probe_bits.ensures, c.is_some.ensures, em, probe_bits_lem r.bits _))

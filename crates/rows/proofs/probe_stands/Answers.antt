@@ -8,7 +8,7 @@ use lib.ListN.{get_or}
 use lib.Ieee.{Float}
 use Rattle.limits.specs.Limits.{same_f}
 use Rattle.length.specs.Available.{definite}
-use Rattle.util.specs.Maybe.{or_zero, is_some}
+use Rattle.util.specs.Maybe.{or_zero}
 use Rattle.style.specs.Codes.{flag_at}
 use Rattle.steps.specs.Row.{Row, row_numbers, row_words}
 use Rattle.steps.specs.Probe.{probe_stands}
@@ -25,8 +25,8 @@ unfolding probe_stands
 returns-then-bits-kind c =
     λ r z y er em.
     let l : c.flag.result ≡ flag_at r.bits 4 = c.flag.ensures ∙ rw em refl in
-    let w : c.same_bits.result ≡ same_f r.probe.width (or_zero (definite c.args.q.available)) = same_as _ _ _ _ _ c.same_bits.ensures (rw er refl) (c.or_zero.ensures ∙ ap or_zero c.into_option.ensures) in
-    let h : c.same_bits-then-same_bits.result ≡ same_f r.probe.height (or_zero c.args.q.height) = same_as _ _ _ _ _ c.same_bits-then-same_bits.ensures (rw er refl) c.or_zero-then-same_bits.ensures in
+    let w : c.same_bits.result ≡ same_f r.probe.width (or_zero (definite c.args.q.available)) = same_as _ _ _ _ _ c.same_bits.ensures (rw er refl) (c.unwrap_or.ensures ∙ ap or_zero c.into_option.ensures) in
+    let h : c.same_bits-then-same_bits.result ≡ same_f r.probe.height (or_zero c.args.q.height) = same_as _ _ _ _ _ c.same_bits-then-same_bits.ensures (rw er refl) c.unwrap_or-then-same_bits.ensures in
     rw (← l, c.if-flag.true, ← w, c.if-same_bits.true, ← h, c.if-same_bits-2.true, sym (kind_is c.args.marks.now y _ _ r em c.available_kind-kind.ensures.is) ∙ eq-eqb _ _ c.if-bits-kind.true) (flag_as _ _ _ (flag_at r.bits 7) _ c.same_flag.ensures (c.flag-then-bits-kind.ensures ∙ rw em refl) c.is_some.ensures)
 
 -- the first that does not hold
@@ -35,8 +35,8 @@ unfolding probe_stands
 returns-else-bits-kind c =
     λ r z y er em.
     let l : c.flag.result ≡ flag_at r.bits 4 = c.flag.ensures ∙ rw em refl in
-    let w : c.same_bits.result ≡ same_f r.probe.width (or_zero (definite c.args.q.available)) = same_as _ _ _ _ _ c.same_bits.ensures (rw er refl) (c.or_zero.ensures ∙ ap or_zero c.into_option.ensures) in
-    let h : c.same_bits-then-same_bits.result ≡ same_f r.probe.height (or_zero c.args.q.height) = same_as _ _ _ _ _ c.same_bits-then-same_bits.ensures (rw er refl) c.or_zero-then-same_bits.ensures in
+    let w : c.same_bits.result ≡ same_f r.probe.width (or_zero (definite c.args.q.available)) = same_as _ _ _ _ _ c.same_bits.ensures (rw er refl) (c.unwrap_or.ensures ∙ ap or_zero c.into_option.ensures) in
+    let h : c.same_bits-then-same_bits.result ≡ same_f r.probe.height (or_zero c.args.q.height) = same_as _ _ _ _ _ c.same_bits-then-same_bits.ensures (rw er refl) c.unwrap_or-then-same_bits.ensures in
     rw (← l, c.if-flag.true, ← w, c.if-same_bits.true, ← h, c.if-same_bits-2.true, sym (kind_is c.args.marks.now y _ _ r em c.available_kind-kind.ensures.is) ∙ ne_eqb _ _ c.if-bits-kind.false) (ne_eqb _ _ c.if-bits-kind.false)
 
 pub returns-else-same_bits-2 : goal.returns-else-same_bits-2
@@ -44,8 +44,8 @@ unfolding probe_stands
 returns-else-same_bits-2 c =
     λ r z y er em.
     let l : c.flag.result ≡ flag_at r.bits 4 = c.flag.ensures ∙ rw em refl in
-    let w : c.same_bits.result ≡ same_f r.probe.width (or_zero (definite c.args.q.available)) = same_as _ _ _ _ _ c.same_bits.ensures (rw er refl) (c.or_zero.ensures ∙ ap or_zero c.into_option.ensures) in
-    let h : c.same_bits-then-same_bits.result ≡ same_f r.probe.height (or_zero c.args.q.height) = same_as _ _ _ _ _ c.same_bits-then-same_bits.ensures (rw er refl) c.or_zero-then-same_bits.ensures in
+    let w : c.same_bits.result ≡ same_f r.probe.width (or_zero (definite c.args.q.available)) = same_as _ _ _ _ _ c.same_bits.ensures (rw er refl) (c.unwrap_or.ensures ∙ ap or_zero c.into_option.ensures) in
+    let h : c.same_bits-then-same_bits.result ≡ same_f r.probe.height (or_zero c.args.q.height) = same_as _ _ _ _ _ c.same_bits-then-same_bits.ensures (rw er refl) c.unwrap_or-then-same_bits.ensures in
     rw (← l, c.if-flag.true, ← w, c.if-same_bits.true, ← h, c.if-same_bits-2.false)
 
 pub returns-else-same_bits : goal.returns-else-same_bits
@@ -53,7 +53,7 @@ unfolding probe_stands
 returns-else-same_bits c =
     λ r z y er em.
     let l : c.flag.result ≡ flag_at r.bits 4 = c.flag.ensures ∙ rw em refl in
-    let w : c.same_bits.result ≡ same_f r.probe.width (or_zero (definite c.args.q.available)) = same_as _ _ _ _ _ c.same_bits.ensures (rw er refl) (c.or_zero.ensures ∙ ap or_zero c.into_option.ensures) in
+    let w : c.same_bits.result ≡ same_f r.probe.width (or_zero (definite c.args.q.available)) = same_as _ _ _ _ _ c.same_bits.ensures (rw er refl) (c.unwrap_or.ensures ∙ ap or_zero c.into_option.ensures) in
     rw (← l, c.if-flag.true, ← w, c.if-same_bits.false)
 
 pub returns-else-flag : goal.returns-else-flag

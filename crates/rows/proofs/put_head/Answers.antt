@@ -47,4 +47,4 @@ shape_of-rows c = simp length-set refl
 
 pub returns : goal.returns
 unfolding probe_of laid_row head_bits
-returns c = λ r z y er em. (rw (c.or_zero-5.ensures, c.or_zero-4.ensures, c.or_zero-3.ensures, c.or_zero-2.ensures, c.or_zero.ensures, er), rw (c.head_bits.ensures, c.is_some-3.ensures, c.is_some-2.ensures, c.is_some.ensures, em))
+returns c = λ r z y er em. (rw (c.unwrap_or-5.ensures, c.unwrap_or-4.ensures, c.unwrap_or-3.ensures, c.unwrap_or-2.ensures, c.unwrap_or.ensures, er), rw (c.head_bits.ensures, c.is_some-3.ensures, c.is_some-2.ensures, c.is_some.ensures, em))

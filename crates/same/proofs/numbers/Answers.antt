@@ -1,36 +1,20 @@
-use borrow.Author.Rules.{rules}
-use borrow.Author.Count.{below_none, below_more}
-use mathlib.Core.Path.{◌≡◌, refl, sym, subst, ◌∙◌}
-use mathlib.Core.Bool.{Bool, true, false, not}
-use mathlib.Core.List.{List}
-use Prim.Native.Nat.{ℕ, ◌≤◌, ◌<◌, ◌-◌}
-use native.Mathlib.Nat.{le_antisymm}
-use lib.Dec.{T}
-use lib.ListN.{length, get_or}
+-- Each pair that `all` saw is of two equal numbers, so the lists are one.
+use Rattle.std.proofs.Common.{◌≡◌, ℕ, ◌<◌, List, length, get_or, arith, rules}
+use Rattle.std.specs.Float.{nan}
+use Rattle.std.specs.Prelude.{Float}
+use Rattle.std.specs.List.{AllWithin, zip}
+use Rattle.std.proofs.lemmas.Iterator.{cases_from_all, YieldsList-from_slice, YieldsList-from_zip}
+use Rattle.std.proofs.lemmas.Slice.Zip.{length-zip, get_or-zip}
 use lib.Seq.{ext_get_or}
-use lib.Ieee.{Float, nan}
 use Rattle.limits.specs.Same.{same_is}
-use Rattle.same.proofs.numbers.Invariants.{Alike}
 use Rattle.same.proofs.numbers.Goals as goal
 
-never : {X : Type 0} → false ≡ true → X
-never e = absurd (subst T (sym e) tt)
-
-not-false : (b : Bool) → not b ≡ false → b ≡ true
-not-false true e = refl
-not-false false e = sym e
+same_from_pairs : (xs ys : List Float) → length xs ≡ length ys → AllWithin (λ (p : Float × Float). p.0 ≡ p.1) (zip xs ys) 0 (length (zip xs ys)) → xs ≡ ys
+same_from_pairs xs ys e h =
+    let each : (k : ℕ) → k < length xs → get_or xs k nan ≡ get_or ys k nan = λ k below. let at = h k (nan, nan) (omega arith) (rw length-zip (omega arith)) in rw (get_or-zip xs ys k (nan, nan) below (omega arith)) at at in
+    ext_get_or nan xs ys e each
 
 pub returns-then-a-b : goal.returns-then-a-b
-returns-then-a-b c e = never e
-
-pub loop-i-init : goal.loop-i-init
-loop-i-init c = (search rules, below_none _)
-
-pub returns-then-not-same_bits : goal.returns-then-not-same_bits
-returns-then-not-same_bits c e = never e
-
-pub loop-i-preserved : goal.loop-i-preserved
-loop-i-preserved c = (search rules, below_more _ _ c.loop-i.invariant.1 (same_is _ _ (sym c.same_bits.ensures ∙ c.if-not-same_bits.false)))
-
-pub returns : goal.returns
-returns c e = ext_get_or nan c.args.a.now c.args.b.now c.if-a-b.false (subst (λ (n : ℕ). (k : ℕ) → k < n → Alike c.args.a.now c.args.b.now k) (le_antisymm c.loop-i.invariant.0 c.loop-i-test.false) c.loop-i.invariant.1)
+returns-then-a-b c e =
+    let cases = cases_from_all c.all.new.self _ _ (λ (p : Float × Float). p.0 ≡ p.1) (λ p. Unit {0}) c.all.ensures.ran (YieldsList-from_zip (YieldsList-from_slice c.args.a.now cc) (YieldsList-from_slice c.args.b.now cc)) (λ x q k. search (rules, same_is)) (λ x q k. tt) in
+    same_from_pairs c.args.a.now c.args.b.now c.if-a-b.true (rw e at cases)

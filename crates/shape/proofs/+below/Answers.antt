@@ -52,8 +52,8 @@ overflow_sub-depth t c = let g = fine _ _ _ _ (sym c.node_fault.ensures ∙ c.if
 pub below-found-requires : goal.below-found-requires
 below-found-requires t c = let g = fine _ _ _ _ (sym c.node_fault.ensures ∙ c.if-node_fault.false) in let k = run-nodes c.args.words.now c.args.base c.args.depth c.loop-a.a _ _ c.word_in-size.ensures c.word_in-style.ensures c.loop-a-test.true c.loop-a.invariant.1 (sym c.node_fault.ensures ∙ c.if-node_fault.false) in (omega (arith, c.decreases), omega (arith, c.requires))
 
-pub returns-in-At : goal.returns-in-At
-returns-in-At t c = found c.args.words.now c.args.base c.args.depth c.loop-a.a _ _ c.word_in-size.ensures c.word_in-style.ensures c.loop-a-test.true c.loop-a.invariant.1 (sym c.node_fault.ensures ∙ c.if-node_fault.false) _ c.below-found.ensures _ c.in-At.is
+pub returns-in-Some : goal.returns-in-Some
+returns-in-Some t c = found c.args.words.now c.args.base c.args.depth c.loop-a.a _ _ c.word_in-size.ensures c.word_in-style.ensures c.loop-a-test.true c.loop-a.invariant.1 (sym c.node_fault.ensures ∙ c.if-node_fault.false) _ c.below-found.ensures _ c.in-Some.is
 
 pub loop-a-smaller : goal.loop-a-smaller
 loop-a-smaller t c = let g = fine _ _ _ _ (sym c.node_fault.ensures ∙ c.if-node_fault.false) in omega arith

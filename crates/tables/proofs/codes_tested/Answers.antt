@@ -2,10 +2,10 @@ use Rattle.steps.specs.Noes.{no3, and_then, at_fault}
 use borrow.Author.Rules.{rules}
 use Rattle.tables.proofs.codes_tested.Goals as goal
 
-pub returns-in-Nowhere : goal.returns-in-Nowhere
+pub returns-in-None : goal.returns-in-None
 unfolding no3 and_then at_fault
-returns-in-Nowhere c = rw (← c.first_bad_style.ensures, c.in-Nowhere.is)
+returns-in-None c = rw (← c.first_bad_style.ensures, c.in-None.is)
 
-pub returns-in-At : goal.returns-in-At
+pub returns-in-Some : goal.returns-in-Some
 unfolding no3 and_then at_fault
-returns-in-At c = rw (← c.first_bad_style.ensures, c.in-At.is)
+returns-in-Some c = rw (← c.first_bad_style.ensures, c.in-Some.is)

@@ -1,18 +1,13 @@
-use mathlib.Core.Path.{◌≡◌, refl, sym, subst, ◌∙◌}
-use mathlib.Core.Bool.{Bool, true, false, not}
-use lib.Dec.{T}
-use lib.Ieee.{Float, nan, ne, is_nan, binary32, to_bits}
-use lib.Ieee.Compare.{differs_from_itself}
-use Rattle.limits.specs.Laws.{ne_self}
-use borrow.Author.Rules.{rules}
+use Rattle.std.proofs.Common.{◌≡◌, sym, ◌∙◌, refl, true, true≢false}
+use Rattle.std.specs.Float.{binary32}
+use Rattle.std.specs.Float.Ieee.{Float, nan, inf, fin, is_nan, to_bits}
 use Rattle.text.proofs.bits_of.Goals as goal
 
-nan-bits : (x : Float) → ne x x ≡ true → 0x7fc0_0000 ≡ to_bits binary32 x
-unfolding to_bits
-nan-bits x e = rw (differs_from_itself x (subst T (sym e) tt))
+nan_bits_of : (x : Float) → is_nan x ≡ true → 0x7fc0_0000 ≡ to_bits binary32 x
+unfolding to_bits is_nan
+nan_bits_of nan e = refl
+nan_bits_of (inf s) e = absurd (true≢false (sym e))
+nan_bits_of (fin s m k) e = absurd (true≢false (sym e))
 
-pub returns-then-x : goal.returns-then-x
-returns-then-x c = nan-bits c.args.x c.if-x.true
-
-pub float_to_bits-result : goal.float_to_bits-result
-float_to_bits-result c = subst (λ (b : Bool). T (not b)) (sym c.if-x.false ∙ ne_self c.args.x) tt
+pub returns-then-is_nan : goal.returns-then-is_nan
+returns-then-is_nan c = nan_bits_of c.args.x (sym c.is_nan.ensures.value ∙ c.if-is_nan.true)

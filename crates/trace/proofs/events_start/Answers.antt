@@ -1,15 +1,8 @@
 use borrow.Author.Rules.{rules}
 use native.Mathlib.Omega.{arith}
-use mathlib.Core.Path.{◌≡◌, refl, sym, ◌∙◌, ap}
-use mathlib.Core.Bool.{true}
-use Prim.Native.Nat.{ℕ, ◌+◌, ◌-◌, ◌≤◌}
-use lib.ListN.{length, drop, get_or}
-use lib.Dec.{eqb}
-use Rattle.text.specs.Pieces.{bit}
-use Rattle.trace.specs.File.{before_events}
+use mathlib.Core.Path.{sym, ◌∙◌, ap}
+use Prim.Native.Nat.{ℕ}
 use Rattle.trace.proofs.Beginning.{here, further, nowhere}
-use Rattle.trace.proofs.one.Reads as one-reads
-use Rattle.trace.proofs.starts_events.Reads as starts-events-reads
 use Rattle.trace.proofs.events_start.Goals as goal
 
 pub loop-i-init : goal.loop-i-init

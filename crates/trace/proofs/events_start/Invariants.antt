@@ -1,15 +1,8 @@
-use borrow.Author.Rules.{rules}
-use native.Mathlib.Omega.{arith}
-use mathlib.Core.Path.{◌≡◌, refl, sym, ◌∙◌, ap}
+use mathlib.Core.Path.{◌≡◌}
 use mathlib.Core.Bool.{true}
-use Prim.Native.Nat.{ℕ, ◌+◌, ◌-◌, ◌≤◌}
-use lib.ListN.{length, drop, get_or}
-use lib.Dec.{eqb}
-use Rattle.text.specs.Pieces.{bit}
+use Prim.Native.Nat.{◌+◌, ◌-◌, ◌≤◌}
+use lib.ListN.{length, drop}
 use Rattle.trace.specs.File.{before_events}
-use Rattle.trace.proofs.Beginning.{here, further, nowhere}
-use Rattle.trace.proofs.one.Reads as one-reads
-use Rattle.trace.proofs.starts_events.Reads as starts-events-reads
 use Rattle.trace.proofs.events_start.Given as goal
 
 abbrev pub invariant-loop-i : goal.invariant-loop-i

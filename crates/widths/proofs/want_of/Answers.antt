@@ -6,4 +6,4 @@ use Rattle.widths.proofs.want_of.Goals as goal
 pub returns : goal.returns
 unfolding want_of
 returns c = let a = c.args in
-    rw (c.want_in.ensures, c.flow_at.ensures, flow_read a.r a.numbers.now)
+    rw (c.want_in.ensures, c.flow_at.ensures, flow_read a.r a.r.numbers.now)

@@ -1,8 +1,8 @@
+use Rattle.std.specs.Prelude.{Option, Some, Float}
+use Rattle.geometry.specs.declared.Size.{Size}
 use mathlib.Core.Path.{◌≡◌, sym, ap, ◌∙◌}
 use mathlib.Core.Bool.{true, false}
 use borrow.Author.Rules.{rules}
-use Rattle.util.specs.declared.OptionF32.TheVariants.{Some}
-use Rattle.util.specs.declared.OptionSize.{OptionSize}
 use Rattle.style.specs.Flow.{is_leaf}
 use Rattle.style.specs.Style.{style_at}
 use Rattle.style.specs.declared.Measure.{Measure}
@@ -23,4 +23,4 @@ pub returns : goal.returns
 unfolding width_at_once
 returns c = let a = c.args in
     let block : is_leaf (style_at a.words.now 0 a.numbers.now a.base).kind ≡ false = ap is_leaf (sym (kind_at a.words.now a.numbers.now a.base)) ∙ sym c.is_leaf.ensures ∙ c.if-is_leaf.false in
-    rw block (ap (λ (z : OptionSize). z.width) (c.probe_known-known.ensures ∙ ap (λ (z : Style). probe_known z a.q) c.reader_at-r.ensures.style))
+    rw block (ap (λ (z : Size (Option Float)). z.width) (c.probe_known-known.ensures ∙ ap (λ (z : Style). probe_known z a.q) c.at-r.ensures))

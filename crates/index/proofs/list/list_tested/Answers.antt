@@ -3,9 +3,9 @@ use Rattle.index.specs.Index.{list_answer, by_entry}
 use borrow.Author.Rules.{rules}
 use Rattle.index.proofs.list.list_tested.Goals as goal
 
-pub returns-in-At : goal.returns-in-At
+pub returns-in-Some : goal.returns-in-Some
 unfolding list_answer by_entry
-returns-in-At c = rw (← c.first_bad_entry.ensures, c.in-At.is)
+returns-in-Some c = rw (← c.first_bad_entry.ensures, c.in-Some.is)
 
 pub returns-then-list-gt256 : goal.returns-then-list-gt256
 unfolding list_answer by_entry

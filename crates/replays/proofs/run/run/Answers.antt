@@ -1,17 +1,12 @@
 use native.Mathlib.Omega.{arith}
-use mathlib.Core.Path.{◌≡◌, refl, sym, ◌∙◌, ap}
-use mathlib.Core.List.{List}
-use Prim.Native.Nat.{ℕ, ◌+◌, ◌-◌, ◌≤◌}
-use lib.ListN.{length, drop}
+use mathlib.Core.Path.{refl}
+use lib.ListN.{drop}
 use borrow.Author.Rules.{rules}
 use Rattle.text.specs.Pieces.{lines_of}
-use Rattle.print.specs.Pen.{Pen, pen}
+use Rattle.print.specs.Pen.{pen}
 use Rattle.trace.specs.Event.{events_of}
-use Rattle.day.specs.Day.{Day, day}
-use Rattle.replays.specs.Output.{RunOf}
+use Rattle.day.specs.Day.{day}
 use Rattle.replays.proofs.RunLaws.{turn, last_turn}
-use Rattle.replays.proofs.run.run_line.Reads as run-line-reads
-use Rattle.text.proofs.piece_end.Reads as piece-end-reads
 use Rattle.replays.proofs.run.run.Goals as goal
 
 pub loop-i-init : goal.loop-i-init

@@ -1,17 +1,11 @@
-use native.Mathlib.Omega.{arith}
-use mathlib.Core.Path.{◌≡◌, refl, sym, ◌∙◌, ap}
-use mathlib.Core.List.{List}
-use Prim.Native.Nat.{ℕ, ◌+◌, ◌-◌, ◌≤◌}
+use mathlib.Core.Path.{◌≡◌}
+use Prim.Native.Nat.{◌+◌, ◌-◌}
 use lib.ListN.{length, drop}
-use borrow.Author.Rules.{rules}
 use Rattle.text.specs.Pieces.{lines_of}
 use Rattle.print.specs.Pen.{Pen, pen}
 use Rattle.trace.specs.Event.{events_of}
 use Rattle.day.specs.Day.{Day, day}
 use Rattle.replays.specs.Output.{RunOf}
-use Rattle.replays.proofs.RunLaws.{turn, last_turn}
-use Rattle.replays.proofs.run.run_line.Reads as run-line-reads
-use Rattle.text.proofs.piece_end.Reads as piece-end-reads
 use Rattle.replays.proofs.run.run.Given as goal
 
 abbrev pub invariant-loop-i : goal.invariant-loop-i

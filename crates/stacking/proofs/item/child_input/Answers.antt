@@ -1,7 +1,8 @@
+use mathlib.Core.Path.{refl}
 use Rattle.steps.specs.Stack.{child_input}
 use borrow.Author.Rules.{rules}
 use Rattle.stacking.proofs.item.child_input.Goals as goal
 
 pub returns : goal.returns
 unfolding child_input
-returns c = λ xs. rw (c.container_inner_width.ensures, c.asked_height.ensures, c.asked_width-width.ensures, c.is_in_same_bfc-plain.ensures xs)
+returns c = λ xs. rw (c.container_inner_width.ensures, c.asked_height.ensures, c.asked_width-width.ensures, c.is_in_same_bfc-plain.ensures c.args.r xs refl)

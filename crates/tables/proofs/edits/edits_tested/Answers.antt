@@ -3,9 +3,9 @@ use Rattle.steps.specs.Noes.{no6, and_then, at_spot}
 use borrow.Author.Rules.{rules}
 use Rattle.tables.proofs.edits.edits_tested.Goals as goal
 
-pub returns-in-At : goal.returns-in-At
+pub returns-in-Some : goal.returns-in-Some
 unfolding no6 and_then at_spot
-returns-in-At c = rw (← c.first_bad_edit.ensures, c.in-At.is)
+returns-in-Some c = rw (← c.first_bad_edit.ensures, c.in-Some.is)
 
 pub returns-then-edits-gt-MAX_EDITS : goal.returns-then-edits-gt-MAX_EDITS
 unfolding no6 and_then at_spot

@@ -1,3 +1,4 @@
+use Rattle.std.specs.Prelude.{None, Some}
 use borrow.Author.Rules.{rules}
 use borrow.Author.Tests.{lt-ltb, le-ltb}
 use native.Mathlib.Omega.{arith}
@@ -6,12 +7,8 @@ use Prim.Native.Nat.{◌≤◌, ◌-◌, min}
 use lib.ListN.{length}
 use Rattle.steps.specs.Scan.{scan, first_of}
 use Rattle.steps.specs.Noes.{bad_edit}
-use Rattle.steps.specs.declared.Spot.TheVariants.{Nowhere, At}
 use Rattle.scans.specs.Scans.{pass, here, over, start}
 use Rattle.tables.proofs.edits.first_bad_edit.Given as goal
 
 abbrev pub invariant-loop-k : goal.invariant-loop-k
-invariant-loop-k l = (l.most ≡ min 64 (length l.edits)) × (l.k ≤ l.most) × (scan (bad_edit l.edits l.n) At Nowhere 0 l.most ≡ scan (bad_edit l.edits l.n) At Nowhere l.k (l.most - l.k))
-
-abbrev pub decreases-loop-k : goal.decreases-loop-k
-decreases-loop-k l = l.most - l.k
+invariant-loop-k l = (l.most ≡ min 64 (length l.edits)) × (l.k ≤ l.most) × (scan (bad_edit l.edits l.n) Some None 0 l.most ≡ scan (bad_edit l.edits l.n) Some None l.k (l.most - l.k))

@@ -1,7 +1,0 @@
-use Rattle.reader.specs.Reader.{style_in}
-use borrow.Author.Rules.{rules}
-use Rattle.reader.proofs.inset.Goals as goal
-
-pub returns : goal.returns
-unfolding style_in
-returns c = c.sides.ensures
