@@ -113,6 +113,11 @@ def of_statements(path):
     return found
 
 
+def of_a_function(inside):
+    """Is this file a function's own proof: proofs/.., its folder, and a name that the check gives?"""
+    return inside[1] == "proofs" and len(inside) > 3 and inside[-1] in ("Answers.antt", "Invariants.antt", "Proof.antt")
+
+
 def read(root):
     code, statements = {}, {}
     for path in sorted((root / "crates").rglob("*")):
@@ -120,7 +125,7 @@ def read(root):
         if path.suffix == ".rt" and inside[1] == "src":
             for name, text in of_code(path).items():
                 code[inside[0], name] = text
-        elif path.suffix == ".antt" and inside[1] in ("specs", "proofs") and path.name not in ("Answers.antt", "Invariants.antt", "Lib.antt"):
+        elif path.suffix == ".antt" and inside[1] in ("specs", "proofs") and path.name != "Lib.antt" and not of_a_function(inside):
             for name, (is_definition, text) in of_statements(path).items():
                 statements["/".join(inside), name] = (is_definition, text)
     return code, statements
