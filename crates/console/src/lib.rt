@@ -1,9 +1,11 @@
 // Standard input and output for the programs: bytes and numbers, with no memory but what the caller lends.
 #![tactic(auto)]
 
-ghost use Rattle.std.specs.Prelude.{◌≡◌, ℕ, ◌≤◌, ◌++◌, length, slice_index, EachIndex, take, IsTrue, decimal};
+ghost use Rattle.std.specs.Prelude.{◌≡◌, ℕ, List, ◌∷◌, ◌≤◌, ◌++◌, length, slice_index, EachIndex, take, IsTrue, decimal};
 ghost use Rattle.std.specs.Io.KnownBytes.{Appends, Consumes};
 ghost use Rattle.console.specs.Digits.{eight_hex};
+ghost use Rattle.console.specs.Files.{Said, Answered};
+ghost use Rattle.console.specs.Lines.{line_of, Worded};
 ghost use Rattle.console.specs.Marks.{mark, SplitsAtMark};
 
 use std::io::{Read, Write};
@@ -54,15 +56,24 @@ pub fn print_hex<W: Write>(to: &mut W, n: u32) -> bool
     write!(to, "{n:08x}").is_ok()
 }
 
-// Writes a line: the word of each number in hexadecimal, a blank in front of it.
-pub fn print_line<W: Write, T: Copy, F: Fn(T) -> u32>(to: &mut W, numbers: &[T], word: F)
-    requires { F.IsAlwaysCallable word }
+// A blank, and a word in hexadecimal.
+fn print_word<W: Write>(to: &mut W, word: u32) -> bool
+    ensures { IsTrue result → Appends (W.contents to.old) (W.contents to.new) (32 ∷ eight_hex word) }
 {
+    let blank = write_all(to, b" ");
+    print_hex(to, word) && blank
+}
+
+// Writes a line: the word of each number in hexadecimal, a blank in front of it. False if a write fails.
+pub fn print_line<W: Write, T: Copy, F: Fn(T) -> u32>(to: &mut W, numbers: &[T], word: F) -> bool
+    requires { F.IsAlwaysCallable word }
+    ensures { IsTrue result → (words : List ℕ) × Worded (F.post word) numbers.now words × Appends (W.contents to.old) (W.contents to.new) (line_of words) }
+{
+    let mut written = true;
     for number in numbers {
-        write_all(to, b" ");
-        print_hex(to, word(*number));
+        written = print_word(to, word(*number)) && written;
     }
-    write_all(to, b"\n");
+    write_all(to, b"\n") && written
 }
 
 // Ends each file where several stand in one text.
@@ -96,23 +107,26 @@ pub fn answer_file<W: Write, F: Fn(&[u8], &mut [u8]) -> usize>(
     write_all(to, MARK) && written
 }
 
-// The same for each file of a text.
+// The same for each file of a text: false if a write fails.
 pub fn answer_files<W: Write, F: Fn(&[u8], &mut [u8]) -> usize>(
     to: &mut W,
     text: &[u8],
     room: &mut [u8],
     answer: F,
-)
+) -> bool
     requires callable { F.IsAlwaysCallable answer }
     requires within { (f : _) (r : _) (n : _) (r' : _) → F.post answer f r n r' → n ≤ length r'.now }
+    ensures { IsTrue result → (k : ℕ) × (out : List ℕ) × Answered (Said (F.post answer)) k text.now out × Appends (W.contents to.old) (W.contents to.new) out }
 {
     let mut rest = text;
+    let mut written = true;
     // No `for`: a step is a file and its mark.
     while !rest.is_empty() {
         let (file, behind) = split_at_mark(rest);
-        answer_file(to, file, room, &answer);
+        written = answer_file(to, file, room, &answer) && written;
         rest = behind;
     }
+    written
 }
 
 #[cfg(test)]

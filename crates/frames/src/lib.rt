@@ -1,11 +1,11 @@
 // Step I: a container's frame (the crate's compute_inner up to its items).
 #![tactic(auto)]
 
-ghost use Rattle.std.specs.Prelude.{◌≡◌, not, List, ◌<◌, ◌≤◌, length, Float};
+ghost use Rattle.std.specs.Prelude.{◌≡◌, not, List, ℕ, ◌<◌, ◌≤◌, length, Float};
 ghost use Rattle.style.specs.Flow.{is_in};
 ghost use Rattle.style.specs.Style.{plane_of, style_at};
 ghost use Rattle.style.specs.declared.Style.{Style};
-ghost use Rattle.reader.specs.Reader.{style_in, style_of};
+ghost use Rattle.reader.specs.Reader.{style_by, style_of};
 ghost use Rattle.steps.specs.Context.{clips, is_normal, new_context, plain_block};
 ghost use Rattle.steps.specs.Through.{open_box, hollow_box};
 ghost use Rattle.steps.specs.HeightBasis.{definite_of, basis_below};
@@ -33,7 +33,7 @@ fn is_align_normal(a: AlignContent) -> bool
 
 // Step I: a new context. The style word tells.
 fn establishes_new_bfc(style: u32) -> bool
-    ensures { (r : Reader) (xs : List Float) → r.style ≡ style → result ≡ new_context (style_in r xs) }
+    ensures { (first second : ℕ) (xs : List Float) (j : ℕ) → result ≡ new_context (style_by style first second xs j) }
 {
     let o = style::overflow_of(style);
     let ox = o.x;
@@ -60,7 +60,7 @@ fn is_in(f: Flow) -> bool
 
 // Step I: an in-flow block without new context. The style word tells, whoever reads it.
 pub fn is_in_same_bfc(style: u32) -> bool
-    ensures { (r : Reader) (xs : List Float) → r.style ≡ style → result ≡ plain_block (style_in r xs) }
+    ensures { (first second : ℕ) (xs : List Float) (j : ℕ) → result ≡ plain_block (style_by style first second xs j) }
 {
     let kind = style::kind_of(style);
     if is_in(style::flow_at(style)) {

@@ -72,7 +72,7 @@ pub fn run_case<'a>(to: Stdout, case: &'a [u32]) -> &'a [u32] {
     let mut words = [0; 32];
     let mut numbers = [0.0; 224];
     words[..for_words.len()].copy_from_slice(for_words);
-    copy_numbers(for_numbers, &mut numbers);
+    copy_numbers(for_numbers, &mut numbers[..x]);
     let mut hall_memory = Memory::new();
     let mut kitchen_memory = Memory::new();
     let mut hall = hall_memory.lend(start_of(for_hall), w / 4, length_at(lengths, 2, 8));

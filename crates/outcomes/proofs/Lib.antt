@@ -2,6 +2,7 @@ pub mod AskOnce
 pub mod AskOnceFromC
 pub mod Left
 pub mod C
+pub mod CSize
 pub mod RecordsLeft
 pub mod Given
 pub mod LayoutLaws

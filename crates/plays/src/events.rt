@@ -1,4 +1,6 @@
 // Questions and events out of words.
+ghost use Rattle.std.specs.Prelude.{◌≡◌};
+
 use day::{Ask, Event, State};
 use geometry::Size;
 use length::AvailableSpace;
@@ -25,7 +27,9 @@ fn available(kind: u32, bits: u32) -> AvailableSpace {
 }
 
 // A panel at the start of its day: ten words for its question, an empty list.
-pub fn start_of(words: &[u32]) -> State {
+pub fn start_of(words: &[u32]) -> State
+    ensures { result.count ≡ 0 }
+{
     let width = known(word_at(words, 0), word_at(words, 1));
     let height = known(word_at(words, 2), word_at(words, 3));
     let question = Question {

@@ -8,61 +8,82 @@ use Rattle.style.specs.Flow.{flow_at, flow_of}
 use Rattle.style.specs.declared.Style.{Style}
 use Rattle.reader.specs.declared.Reader.{Reader}
 
--- what it reads
-unfoldable pub style_in : Reader → List Float → Style
-style_in r xs =
+-- the style that a style word and two unit words give with the numbers of node j
+unfoldable pub style_by : ℕ → ℕ → ℕ → List Float → ℕ → Style
+style_by style first second xs j =
     record {
-      kind = kind_of (code_at r.style 0);
-      content = flag_at r.style 2;
-      rtl = flag_at r.style 3;
-      position = position_of (code_at r.style 2);
-      overflow = overflow_xy r.style;
-      align = align_at r.style;
-      safe = flag_at r.style 17;
-      contained = flag_at r.style 12;
-      size = size_in r.first 0 xs r.node 0;
-      min = size_in r.first 2 xs r.node 2;
-      max = size_in r.first 4 xs r.node 4;
-      margin = rect_in r.first 6 xs r.node 6;
-      padding = rect_in r.first 10 xs r.node 10;
-      border = rect_in r.second 0 xs r.node 14;
-      inset = rect_in r.second 4 xs r.node 18;
-      ratio = ratio_of (number_at xs r.node 22);
-      scrollbar = number_at xs r.node 23;
+      kind = kind_of (code_at style 0);
+      content = flag_at style 2;
+      rtl = flag_at style 3;
+      position = position_of (code_at style 2);
+      overflow = overflow_xy style;
+      align = align_at style;
+      safe = flag_at style 17;
+      contained = flag_at style 12;
+      size = size_in first 0 xs j 0;
+      min = size_in first 2 xs j 2;
+      max = size_in first 4 xs j 4;
+      margin = rect_in first 6 xs j 6;
+      padding = rect_in first 10 xs j 10;
+      border = rect_in second 0 xs j 14;
+      inset = rect_in second 4 xs j 18;
+      ratio = ratio_of (number_at xs j 22);
+      scrollbar = number_at xs j 23;
       measure =
           record {
-            least = number_at xs r.node 24;
-            most = number_at xs r.node 25;
-            height = number_at xs r.node 26;
-            baseline = baseline_of r.style (number_at xs r.node 27);
+            least = number_at xs j 24;
+            most = number_at xs j 25;
+            height = number_at xs j 26;
+            baseline = baseline_of style (number_at xs j 27);
           };
     }
+
+-- what it reads in these numbers
+abbrev pub style_in : Reader → List Float → Style
+style_in r xs = style_by r.style r.first r.second xs r.node
 
 -- by its own numbers
 abbrev pub style_of : Reader → Style
 style_of r = style_in r r.numbers.now
 
--- with the first node's words it is the node's style
-pub style_read : (ws : List ℕ) (xs : List Float) (j : ℕ) (r : Reader) → r.style ≡ word_at ws 0 1 → r.first ≡ word_at ws 0 2 → r.second ≡ word_at ws 0 3 → r.node ≡ j → style_in r xs ≡ style_at ws 0 xs j
-unfolding style_in style_at measure_at
-style_read ws xs j r s u v n =
-    rw (s, u, v, n, size_first ws 0 xs j 0 (omega arith), size_first ws 0 xs j 2 (omega arith), size_first ws 0 xs j 4 (omega arith), rect_first ws 0 xs j 6 (omega arith), rect_first ws 0 xs j 10 (omega arith), rect_second ws 0 xs j 0, rect_second ws 0 xs j 4)
+-- with the first node's words it is the style of node j, of any j
+pub style_read : (ws : List ℕ) (xs : List Float) (j : ℕ) → style_by (word_at ws 0 1) (word_at ws 0 2) (word_at ws 0 3) xs j ≡ style_at ws 0 xs j
+unfolding style_by style_at measure_at
+style_read ws xs j =
+    rw (size_first ws 0 xs j 0 (omega arith), size_first ws 0 xs j 2 (omega arith), size_first ws 0 xs j 4 (omega arith), rect_first ws 0 xs j 6 (omega arith), rect_first ws 0 xs j 10 (omega arith), rect_second ws 0 xs j 0, rect_second ws 0 xs j 4)
 
 -- what the style word alone tells of it
+pub flow_by : (style first second : ℕ) (xs : List Float) (j : ℕ) → flow_of (style_by style first second xs j) ≡ flow_at style
+unfolding style_by flow_of flow_at
+flow_by style first second xs j = refl
+
+pub kind_by : (style first second : ℕ) (xs : List Float) (j : ℕ) → (style_by style first second xs j).kind ≡ kind_of (code_at style 0)
+unfolding style_by
+kind_by style first second xs j = refl
+
+pub content_by : (style first second : ℕ) (xs : List Float) (j : ℕ) → (style_by style first second xs j).content ≡ flag_at style 2
+unfolding style_by
+content_by style first second xs j = refl
+
+pub rtl_by : (style first second : ℕ) (xs : List Float) (j : ℕ) → (style_by style first second xs j).rtl ≡ flag_at style 3
+unfolding style_by
+rtl_by style first second xs j = refl
+
+-- the same of a reader; each by itself, so that an edit of `style_by` is refused at the first of them
 pub flow_read : (r : Reader) (xs : List Float) → flow_of (style_in r xs) ≡ flow_at r.style
-unfolding style_in flow_of flow_at
+unfolding style_by flow_of flow_at
 flow_read r xs = refl
 
 pub kind_read : (r : Reader) (xs : List Float) → (style_in r xs).kind ≡ kind_of (code_at r.style 0)
-unfolding style_in
+unfolding style_by
 kind_read r xs = refl
 
 pub content_read : (r : Reader) (xs : List Float) → (style_in r xs).content ≡ flag_at r.style 2
-unfolding style_in
+unfolding style_by
 content_read r xs = refl
 
 pub rtl_read : (r : Reader) (xs : List Float) → (style_in r xs).rtl ≡ flag_at r.style 3
-unfolding style_in
+unfolding style_by
 rtl_read r xs = refl
 
 -- kind, flow and table of a node's style are those of its word and its numbers

@@ -13,7 +13,8 @@ impl<'a> Reader<'a> {
     // A reader of the first node of these words, whose numbers are those of node j.
     pub fn at(words: &[u32], numbers: &'a [f32], j: usize) -> Reader<'a>
         requires { (4 ≤ length words.now) × (j < plane_of numbers.now) }
-        ensures { style_of result ≡ style_at words.now 0 numbers.now j }
+        ensures reads { result.numbers.now ≡ numbers.now }
+        ensures style { style_of result ≡ style_at words.now 0 numbers.now j }
     {
         Reader {
             style: style::word_in(words, 0, style::STYLE),
@@ -67,49 +68,49 @@ impl<'a> Reader<'a> {
         }
     }
 
-    #[tactic(auto, unfolding(crate::specs::Reader::style_in))]
+    #[tactic(auto, unfolding(crate::specs::Reader::style_by))]
     pub fn size(self) -> Size<Length>
         ensures { result ≡ (style_of self.entry).size }
     {
         self.pair(self.first, 0, 0)
     }
 
-    #[tactic(auto, unfolding(crate::specs::Reader::style_in))]
+    #[tactic(auto, unfolding(crate::specs::Reader::style_by))]
     pub fn min(self) -> Size<Length>
         ensures { result ≡ (style_of self.entry).min }
     {
         self.pair(self.first, 2, 2)
     }
 
-    #[tactic(auto, unfolding(crate::specs::Reader::style_in))]
+    #[tactic(auto, unfolding(crate::specs::Reader::style_by))]
     pub fn max(self) -> Size<Length>
         ensures { result ≡ (style_of self.entry).max }
     {
         self.pair(self.first, 4, 4)
     }
 
-    #[tactic(auto, unfolding(crate::specs::Reader::style_in))]
+    #[tactic(auto, unfolding(crate::specs::Reader::style_by))]
     pub fn margin(self) -> Rect<Length>
         ensures { result ≡ (style_of self.entry).margin }
     {
         self.sides(self.first, 6, style::MARGIN)
     }
 
-    #[tactic(auto, unfolding(crate::specs::Reader::style_in))]
+    #[tactic(auto, unfolding(crate::specs::Reader::style_by))]
     pub fn padding(self) -> Rect<Length>
         ensures { result ≡ (style_of self.entry).padding }
     {
         self.sides(self.first, 10, style::PADDING)
     }
 
-    #[tactic(auto, unfolding(crate::specs::Reader::style_in))]
+    #[tactic(auto, unfolding(crate::specs::Reader::style_by))]
     pub fn border(self) -> Rect<Length>
         ensures { result ≡ (style_of self.entry).border }
     {
         self.sides(self.second, 0, style::BORDER)
     }
 
-    #[tactic(auto, unfolding(crate::specs::Reader::style_in))]
+    #[tactic(auto, unfolding(crate::specs::Reader::style_by))]
     pub fn inset(self) -> Rect<Length>
         ensures { result ≡ (style_of self.entry).inset }
     {
@@ -117,70 +118,70 @@ impl<'a> Reader<'a> {
     }
 
     // One side alone.
-    #[tactic(auto, unfolding(crate::specs::Reader::style_in, style::specs::Fields::rect_in))]
+    #[tactic(auto, unfolding(crate::specs::Reader::style_by, style::specs::Fields::rect_in))]
     pub fn margin_top(self) -> Length
         ensures { result ≡ (style_of self.entry).margin.top }
     {
         self.length(self.first, 6, 6)
     }
 
-    #[tactic(auto, unfolding(crate::specs::Reader::style_in, style::specs::Fields::rect_in))]
+    #[tactic(auto, unfolding(crate::specs::Reader::style_by, style::specs::Fields::rect_in))]
     pub fn margin_right(self) -> Length
         ensures { result ≡ (style_of self.entry).margin.right }
     {
         self.length(self.first, 7, 7)
     }
 
-    #[tactic(auto, unfolding(crate::specs::Reader::style_in, style::specs::Fields::rect_in))]
+    #[tactic(auto, unfolding(crate::specs::Reader::style_by, style::specs::Fields::rect_in))]
     pub fn margin_bottom(self) -> Length
         ensures { result ≡ (style_of self.entry).margin.bottom }
     {
         self.length(self.first, 8, 8)
     }
 
-    #[tactic(auto, unfolding(crate::specs::Reader::style_in, style::specs::Fields::rect_in))]
+    #[tactic(auto, unfolding(crate::specs::Reader::style_by, style::specs::Fields::rect_in))]
     pub fn margin_left(self) -> Length
         ensures { result ≡ (style_of self.entry).margin.left }
     {
         self.length(self.first, 9, 9)
     }
 
-    #[tactic(auto, unfolding(crate::specs::Reader::style_in, style::specs::Fields::rect_in))]
+    #[tactic(auto, unfolding(crate::specs::Reader::style_by, style::specs::Fields::rect_in))]
     pub fn padding_right(self) -> Length
         ensures { result ≡ (style_of self.entry).padding.right }
     {
         self.length(self.first, 11, 11)
     }
 
-    #[tactic(auto, unfolding(crate::specs::Reader::style_in, style::specs::Fields::rect_in))]
+    #[tactic(auto, unfolding(crate::specs::Reader::style_by, style::specs::Fields::rect_in))]
     pub fn padding_left(self) -> Length
         ensures { result ≡ (style_of self.entry).padding.left }
     {
         self.length(self.first, 13, 13)
     }
 
-    #[tactic(auto, unfolding(crate::specs::Reader::style_in, style::specs::Fields::rect_in))]
+    #[tactic(auto, unfolding(crate::specs::Reader::style_by, style::specs::Fields::rect_in))]
     pub fn border_right(self) -> Length
         ensures { result ≡ (style_of self.entry).border.right }
     {
         self.length(self.second, 1, 15)
     }
 
-    #[tactic(auto, unfolding(crate::specs::Reader::style_in, style::specs::Fields::rect_in))]
+    #[tactic(auto, unfolding(crate::specs::Reader::style_by, style::specs::Fields::rect_in))]
     pub fn border_left(self) -> Length
         ensures { result ≡ (style_of self.entry).border.left }
     {
         self.length(self.second, 3, 17)
     }
 
-    #[tactic(auto, unfolding(crate::specs::Reader::style_in))]
+    #[tactic(auto, unfolding(crate::specs::Reader::style_by))]
     pub fn ratio(self) -> Option<f32>
         ensures { result ≡ (style_of self.entry).ratio }
     {
         style::ratio_from(self.number(style::RATIO))
     }
 
-    #[tactic(auto, unfolding(crate::specs::Reader::style_in))]
+    #[tactic(auto, unfolding(crate::specs::Reader::style_by))]
     pub fn scrollbar(self) -> f32
         ensures { result ≡ (style_of self.entry).scrollbar }
     {

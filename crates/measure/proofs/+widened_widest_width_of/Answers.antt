@@ -20,13 +20,13 @@ pub widened-width_of-w-requires : goal.widened-width_of-w-requires
 widened-width_of-w-requires t c = (omega (arith, c.decreases), c.requires)
 
 pub widened-returns-in-Nothing : goal.widened-returns-in-Nothing
-widened-returns-in-Nothing t c = nothing-widened c.args.words.now c.args.numbers.now c.args.base _ c.at-r.ensures c.args.a c.args.most _ c.want_of-want.ensures c.in-Nothing.is
+widened-returns-in-Nothing t c = nothing-widened c.args.words.now c.args.numbers.now c.args.base _ c.at-r.ensures.style c.args.a c.args.most _ c.want_of-want.ensures c.in-Nothing.is
 
 pub widened-returns-in-Outer : goal.widened-returns-in-Outer
-widened-returns-in-Outer t c = outer-widened c.args.words.now c.args.numbers.now c.args.base _ c.at-r.ensures c.args.a c.args.most _ c.want_of-want.ensures _ _ c.in-Outer.is c.f32_max.ensures
+widened-returns-in-Outer t c = outer-widened c.args.words.now c.args.numbers.now c.args.base _ c.at-r.ensures.style c.args.a c.args.most _ c.want_of-want.ensures _ _ c.in-Outer.is c.f32_max.ensures
 
 pub widened-returns-in-Probe : goal.widened-returns-in-Probe
-widened-returns-in-Probe t c = probe-widened c.args.words.now c.args.numbers.now c.args.base _ c.at-r.ensures c.args.a c.args.most _ c.want_of-want.ensures _ _ _ _ c.in-Probe.is c.width_of-w.ensures c.outer_width-o.ensures c.f32_max-in-Probe.ensures
+widened-returns-in-Probe t c = probe-widened c.args.words.now c.args.numbers.now c.args.base _ c.at-r.ensures.style c.args.a c.args.most _ c.want_of-want.ensures _ _ _ _ c.in-Probe.is c.width_of-w.ensures c.outer_width-o.ensures c.f32_max-in-Probe.ensures
 
 pub widest-loop-i-init : goal.widest-loop-i-init
 widest-loop-i-init t c = (omega arith, wide_begin c.args.words.now c.args.numbers.now c.args.base c.args.a _ refl)
@@ -101,4 +101,4 @@ pub width_of-returns-in-Some : goal.width_of-returns-in-Some
 width_of-returns-in-Some t c = width-at-once c.args.words.now c.args.numbers.now c.args.base _ refl c.args.q _ (sym c.width_at_once-width.ensures ∙ c.in-Some.is)
 
 pub width_of-returns-in-None : goal.width_of-returns-in-None
-width_of-returns-in-None t c = width-inside c.args.words.now c.args.numbers.now c.args.base _ c.at-r.ensures c.args.q _ _ _ (ap (λ (z : Style). width_at_once z c.args.q) c.at-r.ensures ∙ sym c.width_at_once-width.ensures ∙ c.in-None.is) c.available_inside-room.ensures c.widest-most.ensures c.width_from.ensures
+width_of-returns-in-None t c = width-inside c.args.words.now c.args.numbers.now c.args.base _ c.at-r.ensures.style c.args.q _ _ _ (ap (λ (z : Style). width_at_once z c.args.q) c.at-r.ensures.style ∙ sym c.width_at_once-width.ensures ∙ c.in-None.is) c.available_inside-room.ensures c.widest-most.ensures c.width_from.ensures

@@ -23,4 +23,4 @@ pub returns-in-Some : goal.returns-in-Some
 returns-in-Some c = λ t h. known_found c.args.words.now c.args.numbers.now c.args.q _ _ refl t h ∙ ap (λ (z : Option Float). found_t t c.args.q z) (sym c.in-Some.is)
 
 pub returns-in-None : goal.returns-in-None
-returns-in-None c = λ t h. inner-found c.args.words.now c.args.numbers.now 0 _ c.at-r.ensures c.args.q _ _ _ c.available_inside-room.ensures c.widest-most.ensures c.width_from.ensures t h ∙ ap (λ (z : Option Float). found_t t c.args.q z) (sym c.in-None.is)
+returns-in-None c = λ t h. inner-found c.args.words.now c.args.numbers.now 0 _ c.at-r.ensures.style c.args.q _ _ _ c.available_inside-room.ensures c.widest-most.ensures c.width_from.ensures t h ∙ ap (λ (z : Option Float). found_t t c.args.q z) (sym c.in-None.is)

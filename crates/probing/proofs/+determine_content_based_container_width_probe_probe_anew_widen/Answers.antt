@@ -199,7 +199,7 @@ pub probe_anew-shape_of-marks-in-None : goal.probe_anew-shape_of-marks-in-None
 probe_anew-shape_of-marks-in-None t c = let f = facts _ _ _ _ _ _ _ c.requires in omega arith
 
 pub probe_anew-returns-in-None : goal.probe_anew-returns-in-None
-probe_anew-returns-in-None t c = anew-inside c.args.words.now c.args.numbers.now c.args.rows.now c.args.marks.now c.args.edits.now c.args.base c.args.q _ c.at-r.ensures _ _ _ _ _ (ap (λ (z : Style). width_at_once z c.args.q) c.at-r.ensures ∙ sym c.width_at_once-width.ensures ∙ c.in-None.is) c.available_inside-inside.ensures c.determine_content_based_container_width-most.ensures c.width_from.ensures
+probe_anew-returns-in-None t c = anew-inside c.args.words.now c.args.numbers.now c.args.rows.now c.args.marks.now c.args.edits.now c.args.base c.args.q _ c.at-r.ensures.style _ _ _ _ _ (ap (λ (z : Style). width_at_once z c.args.q) c.at-r.ensures.style ∙ sym c.width_at_once-width.ensures ∙ c.in-None.is) c.available_inside-inside.ensures c.determine_content_based_container_width-most.ensures c.width_from.ensures
 
 pub widen-at-r-requires : goal.widen-at-r-requires
 widen-at-r-requires t c = let f = facts _ _ _ _ _ _ _ c.requires in (f.words_some, f.reach)
@@ -214,7 +214,7 @@ pub widen-shape_of-marks-in-Probe : goal.widen-shape_of-marks-in-Probe
 widen-shape_of-marks-in-Probe t c = let f = facts _ _ _ _ _ _ _ c.requires in omega arith
 
 pub widen-returns-in-Probe : goal.widen-returns-in-Probe
-widen-returns-in-Probe t c = widened-probe c.args.words.now c.args.numbers.now c.args.rows.now c.args.marks.now c.args.edits.now c.args.base c.args.a c.args.most _ _ _ _ c.at-r.ensures c.want_of-want.ensures _ _ _ _ c.in-Probe.is c.probe-w.ensures c.outer_width.ensures c.f32_max.ensures
+widen-returns-in-Probe t c = widened-probe c.args.words.now c.args.numbers.now c.args.rows.now c.args.marks.now c.args.edits.now c.args.base c.args.a c.args.most _ _ _ _ c.at-r.ensures.style c.want_of-want.ensures _ _ _ _ c.in-Probe.is c.probe-w.ensures c.outer_width.ensures c.f32_max.ensures
 
 pub widen-clear_probes-requires : goal.widen-clear_probes-requires
 widen-clear_probes-requires t c = let f = facts _ _ _ _ _ _ _ c.requires in f.whole
@@ -226,4 +226,4 @@ pub widen-shape_of-marks : goal.widen-shape_of-marks
 widen-shape_of-marks t c = let f = facts _ _ _ _ _ _ _ c.requires in omega arith
 
 pub widen-returns : goal.widen-returns
-widen-returns t c = widened-past c.args.words.now c.args.numbers.now c.args.rows.now c.args.marks.now c.args.edits.now c.args.base c.args.a c.args.most _ _ _ _ c.at-r.ensures c.want_of-want.ensures _ (opened c.in_default.in_default-own.keys2) c.clear_probes.ensures c.most_past.ensures
+widen-returns t c = widened-past c.args.words.now c.args.numbers.now c.args.rows.now c.args.marks.now c.args.edits.now c.args.base c.args.a c.args.most _ _ _ _ c.at-r.ensures.style c.want_of-want.ensures _ (opened c.in_default.in_default-own.keys2) c.clear_probes.ensures c.most_past.ensures

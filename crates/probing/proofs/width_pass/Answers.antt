@@ -51,7 +51,7 @@ pub shape_of-marks-in-Some : goal.shape_of-marks-in-Some
 shape_of-marks-in-Some c = let f = facts _ _ _ _ _ _ _ c.requires in omega arith
 
 pub returns-in-Some : goal.returns-in-Some
-returns-in-Some c = passed-known c.args.words.now c.args.numbers.now c.args.rows.now c.args.marks.now c.args.edits.now c.args.q _ _ _ c.at-r.ensures c.sizing_without_height_basis-z.ensures (c.known_dimensions-known.ensures _ (sym c.ratio.ensures)) _ _ _ c.in-Some.is c.clear_probes.ensures
+returns-in-Some c = passed-known c.args.words.now c.args.numbers.now c.args.rows.now c.args.marks.now c.args.edits.now c.args.q _ _ _ c.at-r.ensures.style c.sizing_without_height_basis-z.ensures (c.known_dimensions-known.ensures _ (sym c.ratio.ensures)) _ _ _ c.in-Some.is c.clear_probes.ensures
 
 pub shape_of-rows-in-None : goal.shape_of-rows-in-None
 shape_of-rows-in-None c = let f = facts _ _ _ _ _ _ _ c.requires in omega arith
@@ -60,4 +60,4 @@ pub shape_of-marks-in-None : goal.shape_of-marks-in-None
 shape_of-marks-in-None c = let f = facts _ _ _ _ _ _ _ c.requires in omega arith
 
 pub returns-in-None : goal.returns-in-None
-returns-in-None c = passed-below c.args.words.now c.args.numbers.now c.args.rows.now c.args.marks.now c.args.edits.now c.args.q _ _ _ c.at-r.ensures c.sizing_without_height_basis-z.ensures (c.known_dimensions-known.ensures _ (sym c.ratio.ensures)) _ _ _ _ _ _ _ c.in-None.is c.clear_first.ensures c.available_inside-inside.ensures c.determine_content_based_container_width-most.ensures c.width_from.ensures
+returns-in-None c = passed-below c.args.words.now c.args.numbers.now c.args.rows.now c.args.marks.now c.args.edits.now c.args.q _ _ _ c.at-r.ensures.style c.sizing_without_height_basis-z.ensures (c.known_dimensions-known.ensures _ (sym c.ratio.ensures)) _ _ _ _ _ _ _ c.in-None.is c.clear_first.ensures c.available_inside-inside.ensures c.determine_content_based_container_width-most.ensures c.width_from.ensures

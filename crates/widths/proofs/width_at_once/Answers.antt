@@ -23,4 +23,4 @@ pub returns : goal.returns
 unfolding width_at_once
 returns c = let a = c.args in
     let block : is_leaf (style_at a.words.now 0 a.numbers.now a.base).kind ≡ false = ap is_leaf (sym (kind_at a.words.now a.numbers.now a.base)) ∙ sym c.is_leaf.ensures ∙ c.if-is_leaf.false in
-    rw block (ap (λ (z : Size (Option Float)). z.width) (c.probe_known-known.ensures ∙ ap (λ (z : Style). probe_known z a.q) c.at-r.ensures))
+    rw block (ap (λ (z : Size (Option Float)). z.width) (c.probe_known-known.ensures ∙ ap (λ (z : Style). probe_known z a.q) c.at-r.ensures.style))

@@ -5,4 +5,4 @@ use Rattle.stacking.proofs.item.child_input.Goals as goal
 
 pub returns : goal.returns
 unfolding child_input
-returns c = λ xs. rw (c.container_inner_width.ensures, c.asked_height.ensures, c.asked_width-width.ensures, c.is_in_same_bfc-plain.ensures c.args.r xs refl)
+returns c = λ xs. let r = c.args.r in rw (c.container_inner_width.ensures, c.asked_height.ensures, c.asked_width-width.ensures, c.is_in_same_bfc-plain.ensures r.first r.second xs r.node)
