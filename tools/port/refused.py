@@ -27,8 +27,9 @@ def function_at(crate, path, line):
 
 def where(crate, path, line, words):
     """The file, and the goal or lemma that the check's own words name."""
-    if named := re.match(r"error: `([^`]+)`", words):
-        return f"{path} `{named.group(1)}`"
+    # rt cuts a long line, in the middle of a name too.
+    if named := re.match(r"error: `([^`]+)(`|$)", words):
+        return f"{path} `{named.group(1)}`" if named.group(2) else f"{path} `{named.group(1)}..`"
     goal = re.findall(r"\(`([^`]+)`\)", words)
     return f"{path} `{function_at(crate, path, line)}`" + (f", `{goal[-1]}`" if goal else "")
 

@@ -116,7 +116,7 @@ pub fn answer_files<W: Write, F: Fn(&[u8], &mut [u8]) -> usize>(
 ) -> bool
     requires callable { F.IsAlwaysCallable answer }
     requires within { (f : _) (r : _) (n : _) (r' : _) → F.post answer f r n r' → n ≤ length r'.now }
-    ensures { IsTrue result → (k : ℕ) × (out : List ℕ) × Answered (Said (F.post answer)) k text.now out × Appends (W.contents to.old) (W.contents to.new) out }
+    ensures { IsTrue result → (k : ℕ) × (out : List ℕ) × Answered (Said (F.post answer)) k room.old text.now out × Appends (W.contents to.old) (W.contents to.new) out }
 {
     let mut rest = text;
     let mut written = true;
